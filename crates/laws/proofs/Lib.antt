@@ -1,0 +1,5 @@
+-- The laws of specs/, a file each.
+pub mod Tests
+pub mod Search
+pub mod Sums
+pub mod Lists
