@@ -22,6 +22,14 @@ module _ {A : Type 0} (f : A → ℕ) where
   total-next l i d h =
       rw (add-one i, take-suc l i d, map-append f (take i l) (getD l i d ∷ []), total-append (map f (take i l)) (f (getD l i d) ∷ [])) (omega arith)
 
+  -- a longer first part has no smaller sum
+  pub total-mono : (l : List A) (m n : ℕ) → m ≤ n → total (map f (take m l)) ≤ total (map f (take n l))
+  unfolding total
+  total-mono l zero n h = omega arith
+  total-mono [] (suc m) n h = omega arith
+  total-mono (x ∷ l) (suc m) zero h = absurd (omega arith)
+  total-mono (x ∷ l) (suc m) (suc n) h = omega (arith, total-mono l m n (omega arith))
+
   pub total-below : (m : ℕ) → ((a : A) → f a ≤ m) → (l : List A) → total (map f l) ≤ m * length l
   unfolding total
   total-below m h [] = omega arith
