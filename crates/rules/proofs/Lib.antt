@@ -2,3 +2,6 @@
 pub mod Answers
 pub mod Tables
 pub mod Projecting
+-- What follows from the definitions of specs/.
+pub mod Canal
+pub mod Printed

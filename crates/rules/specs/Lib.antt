@@ -11,3 +11,4 @@ pub mod Written
 pub mod Session
 pub mod Sound
 pub mod All
+pub mod Canal
