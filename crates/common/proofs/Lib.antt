@@ -1,0 +1,2 @@
+-- What is known of the arrays and of the record by value.
+pub mod Arrays

@@ -1,0 +1,106 @@
+-- The loop of `projected`: so far the sum is the definition's, and small.
+use mathlib.Core.Path.{_≡_, refl, sym, ap, _∙_}
+use mathlib.Core.List.{List}
+use Prim.Native.Nat.{ℕ, _+_, _-_, _*_, _^_, _≤_, _<_}
+use native.Mathlib.Omega.{arith}
+use borrow.Author.Needs.{needs}
+use lib.ListN.{getD}
+use Rattle.common.specs.Raw.{projected-at, Summable}
+use Rattle.common.proofs.Arrays.{projected-none, projected-next}
+use Rattle.common.proofs.projected.Statement.{statement}
+use Rattle.common.proofs.projected.Tie as tie
+use Rattle.common.proofs.projected.Reads as reads
+use Rattle.common.proofs.projected.Lts as lts
+use Rattle.common.proofs.task_at.Reads as task-at-reads
+
+record Inv (longest tasks : List ℕ) (start n end k : ℕ) : Type 0 where
+  ready : Summable longest tasks start n
+  to : k ≤ n
+  is : end ≡ projected-at longest tasks start k
+  below : end ≤ start + k * 4294967295
+
+module _ {longest tasks : List ℕ} {start n : ℕ} where
+  inv-start : Summable longest tasks start n → Inv longest tasks start n start 0
+  inv-start s = record { ready = s; to = omega arith; is = sym (projected-none longest tasks start); below = omega arith }
+
+  module _ {end k : ℕ} (v : Inv longest tasks start n end k) where
+    inv-end : n ≤ k → end ≡ projected-at longest tasks start n
+    inv-end h =
+        let e : n ≡ k = omega (arith, v .to) in
+        rw e (v .is)
+
+    module _ (h : k < n) {i : ℕ} (e : i ≡ getD tasks k 0) where
+      inv-known : i < 64
+      inv-known = omega (arith, e, v .ready .known k h)
+
+      small : getD longest i 0 ≤ 4294967295
+      small = rw e (v .ready .small k h)
+
+      inv-sum : end + getD longest i 0 < 2 ^ 64
+      inv-sum = omega (arith, small, v .below, v .ready .few, v .ready .soon)
+
+      inv-next : Inv longest tasks start n (end + getD longest i 0) (k + 1)
+      inv-next = record {
+        ready = v .ready;
+        to = omega arith;
+        is = omega (arith, v .is, projected-next longest tasks start k, ap (λ (x : ℕ). getD longest x 0) e);
+        below = omega (arith, v .below, small);
+      }
+
+abbrev Inv-loop : tie.InvT-loop
+Inv-loop longest tasks start n end₀ k₀ end k = Inv longest tasks start n end k
+
+abbrev μ-loop : tie.MeasureT-loop
+μ-loop longest tasks start n end₀ k₀ end k = n - k
+
+-- src/lib.rt:84:5
+loop-holds : tie.Need-loop-holds Inv-loop μ-loop
+loop-holds c = inv-start (c .pre)
+
+-- src/lib.rt:85:13
+task-at-requires : tie.Need-task-at-requires Inv-loop μ-loop
+task-at-requires c κs = search needs
+
+-- src/lib.rt:86:21
+mul-end : tie.Need-mul-end Inv-loop μ-loop
+mul-end c = search (needs, inv-known)
+
+-- src/lib.rt:86:21
+element-copy-out-end : tie.Need-element-copy-out-end Inv-loop μ-loop
+element-copy-out-end c = search (needs, inv-known)
+
+-- src/lib.rt:86:15
+add-end : tie.Need-add-end Inv-loop μ-loop
+add-end c = search inv-sum
+
+-- src/lib.rt:87:9
+add-k : tie.Need-add-k Inv-loop μ-loop
+add-k c = search needs
+
+-- src/lib.rt:84:5
+loop-less : tie.Need-loop-less Inv-loop μ-loop
+loop-less c = search needs
+
+-- src/lib.rt:84:5
+loop-again : tie.Need-loop-again Inv-loop μ-loop
+loop-again c = search inv-next
+
+-- src/lib.rt:78:1
+returns : tie.Need-returns Inv-loop μ-loop
+returns c = search inv-end
+
+pub projected-spec : {M : Type 1} → statement M
+projected-spec =
+    tie.close
+    (tie.spec
+    Inv-loop
+    μ-loop
+    loop-holds
+    task-at-requires
+    mul-end
+    element-copy-out-end
+    add-end
+    add-k
+    loop-less
+    loop-again
+    returns)
