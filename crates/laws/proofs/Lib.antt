@@ -4,3 +4,4 @@ pub mod Search
 pub mod Sums
 pub mod Lists
 pub mod Sequences
+pub mod Folds
