@@ -1,0 +1,3 @@
+// The written record: numbers and round records, read from lent bytes and written into them.
+
+pub mod number; // number.rt: one number, read and written
