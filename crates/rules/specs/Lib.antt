@@ -10,5 +10,7 @@ pub mod Numbers
 pub mod Written
 pub mod Session
 pub mod Sound
+pub mod Cabinet
+pub mod Agreement
 pub mod All
 pub mod Canal
