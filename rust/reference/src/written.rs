@@ -49,19 +49,26 @@ impl From<io::Error> for Fault {
     }
 }
 
-/// Bytes to read numbers from, and how many of them have been taken.
+/// Bytes to read numbers from, how many of them have been taken, and how many
+/// had been when the number read last began.
 pub struct Bytes<S> {
     source: S,
     taken: u64,
+    begun: u64,
 }
 
 impl<S: BufRead> Bytes<S> {
     pub fn new(source: S) -> Bytes<S> {
-        Bytes { source, taken: 0 }
+        Bytes { source, taken: 0, begun: 0 }
     }
 
     pub fn taken(&self) -> u64 {
         self.taken
+    }
+
+    /// The index of the first byte of the number read last.
+    pub fn begun(&self) -> u64 {
+        self.begun
     }
 
     pub fn source(&self) -> &S {
@@ -100,6 +107,7 @@ const GROUPS: u32 = 9;
 /// top bit set (at once, with or without a tenth byte)" and for "the last of
 /// several groups is 0".
 pub fn read_number<S: BufRead>(bytes: &mut Bytes<S>) -> Result<u64, Fault> {
+    bytes.begun = bytes.taken;
     let mut value = 0;
     for group in 0..GROUPS {
         let byte = bytes.take()?;
