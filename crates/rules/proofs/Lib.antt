@@ -2,6 +2,7 @@
 pub mod Answers
 pub mod Tables
 pub mod Projecting
+pub mod Ranges
 -- What follows from the definitions of specs/.
 pub mod Canal
 pub mod Printed
