@@ -1,2 +1,4 @@
 -- What is known of the arrays and of the record by value.
 pub mod Arrays
+pub mod Records
+pub mod Raw

@@ -1,7 +1,7 @@
 -- Laws of rows, of sums over rows, and of a search with two limits: what loops over arrays side by side rest on.
---     rows-same, rows-take      the first n of a sequence, and of a list
---     sum-next, sum-below       their sum
---     lowest-within             a search with two limits
+--     rows-same, rows-take                the first n of a sequence, and of a list
+--     sum-next, sum-below, total-each     their sum, and that of a list of small numbers
+--     lowest-within                       a search with two limits
 use mathlib.Core.Path.{_≡_, refl, sym, _∙_, ap}
 use mathlib.Core.List.{List, [], _∷_, _++_, map}
 use mathlib.Core.Bool.{Bool, true, false, _&&_}
@@ -57,3 +57,8 @@ lowest-within f j n = by (lt-or-ge j n)
     by (inr h) =
         let e : min j n ≡ n = omega arith in
         rw e (lowest-same (λ i. (i <? j) && f i) f n (λ i l. let k : i < j = omega arith in rw (lt-ltb i j k)))
+
+pub total-each : (l : List ℕ) (m : ℕ) → ((i : ℕ) → getD l i 0 ≤ m) → total l ≤ m * length l
+unfolding total
+total-each [] m h = omega arith
+total-each (x ∷ l) m h = omega (arith, h 0, total-each l m (λ i. h (suc i)), mul-suc m (length l))

@@ -1,0 +1,2 @@
+-- What is known of a table by value.
+pub mod Facts
