@@ -1,0 +1,20 @@
+-- What each check of a list of releases answers.
+use mathlib.Core.Bool.{Bool, true, false}
+use mathlib.Core.List.{List, [], _∷_}
+use Prim.Native.Nat.{ℕ, _+_}
+use Rattle.laws.specs.Tests.{_<?_, _≤?_, if_then_else_, any-of}
+use Rattle.rules.specs.Judge.{Release}
+use Rattle.close.specs.declared.listing.Listed.{Listed}
+use Rattle.close.specs.declared.listing.Listed.the-variants as listed
+use Rattle.close.specs.declared.listing.Standing.{Standing}
+use Rattle.close.specs.declared.listing.Standing.the-variants as stand
+
+-- 15: "unknown task, delay ≥ timeout, or delays that fall"
+unfoldable pub listing : ℕ → ℕ → ℕ → Release → Listed
+listing count timeout least x =
+    if any-of ((count ≤? x .task-of) ∷ (timeout ≤? x .delay) ∷ (x .delay <? least) ∷ []) then listed.Refused 15 else listed.Fits (x .delay)
+
+-- A refusal by its test.
+abbrev pub standing : ℕ → Bool → Standing
+standing n true = stand.Refused n
+standing n false = stand.Stands
