@@ -9,7 +9,7 @@ use native.Mathlib.Omega.{arith}
 use lib.Dec.{ltb, leb, eqb}
 use lib.ListN.{getD}
 use borrow.Author.Tests.{ltb-true, ltb-false, eqb-true, eqb-false}
-use Rattle.laws.specs.Tests.{any-of, all-of, found}
+use Rattle.laws.specs.Tests.{if_then_else_, any-of, all-of, found}
 
 pub lt-or-ge : (a b : ℕ) → (a < b) ⊎ (b ≤ a)
 lt-or-ge a b = go (ltb a b) refl
@@ -32,6 +32,10 @@ eqb-cases P a b f g = go (eqb a b) refl
     go : (t : Bool) → eqb a b ≡ t → P t
     go true e = f (eqb-true a b e)
     go false e = g (eqb-false a b e)
+
+pub if-cases : {A : Type 0} (P : A → Type 0) (t : Bool) (a b : A) → (t ≡ true → P a) → (t ≡ false → P b) → P (if t then a else b)
+if-cases P true a b f g = f refl
+if-cases P false a b f g = g refl
 
 pub or-no : (a b : Bool) → (a || b) ≡ false → (a ≡ false) × (b ≡ false)
 or-no true b h = absurd (true≢false h)

@@ -6,3 +6,7 @@ pub mod Ranges
 -- What follows from the definitions of specs/.
 pub mod Canal
 pub mod Printed
+pub mod Bound
+pub mod Judging
+pub mod Releasing
+pub mod Closing

@@ -95,3 +95,6 @@ limits {tab} f i = by (lt-or-ge i (length (tab .tasks)))
     by : (i < length (tab .tasks)) ⊎ (length (tab .tasks) ≤ i) → Small (task tab i)
     by (inl h) = f .each i h .small
     by (inr h) = rw (List·getD-eq-default (tab .tasks) no-task h) none
+
+pub timeout-small : {tab : Table} → Fit tab → tab .timeout ≤ 4294967295
+timeout-small f = let k = f .each 0 (f .tasks .0) in omega (arith, k .timely, k .small .C-small)
