@@ -10,3 +10,4 @@ pub mod Bound
 pub mod Judging
 pub mod Releasing
 pub mod Closing
+pub mod Nodes
