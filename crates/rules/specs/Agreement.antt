@@ -37,6 +37,10 @@ common-after tab qs = (whole-after tab qs) .now
 unfoldable pub order-after : Table → List Round → List ℕ
 order-after tab qs = map (λ j. j .task-of) ((whole-after tab qs) .gone ++ (common-after tab qs) .kept)
 
+-- Not "rejected as malformed, behind or over the bound", nor missing: of class 0 or 5.
+abbrev pub Good : Table → Common → ℕ → Report → Type 0
+Good tab c r e = (class tab c r (some e) ≡ 0) ⊎ (class tab c r (some e) ≡ 5)
+
 -- The entry of a record at a node's number.
 abbrev pub entry-of : Watched → Round → Option Report
 entry-of x q = getD (q .entries) ((x .node) .number) none
@@ -58,10 +62,10 @@ pub record Healthy (H : ℕ → Type 0) (σ : Cabinet) : Type 0 where
 
 -- What is promised of x, of which x₀ is what it was at the same or an earlier moment, and of y.
 pub record Agrees (tab : Table) (x₀ x y : Watched) : Type 0 where
-  -- "no healthy report is rejected as malformed, behind or over the bound": a report of x for a record that y closed stands in it, and is of class 0 or 5
-  -- by the records before it.
+  -- "no healthy report is rejected as malformed, behind or over the bound": a report of x for a record that y closed stands in it, and is good by the
+  -- records before it.
   pub classes : (before : List Round) (q : Round) (behind : List Round) → y .closed ≡ before ++ (q ∷ behind) → (e : Report) → Sent x (q .r) e
-      → (entry-of x q ≡ some e) × ((class tab (common-after tab before) (q .r) (some e) ≡ 0) ⊎ (class tab (common-after tab before) (q .r) (some e) ≡ 5))
+      → (entry-of x q ≡ some e) × Good tab (common-after tab before) (q .r) e
   -- "What a healthy controller has started is at each moment the first part of the order that its own closed records give on their own"
   pub own : Prefix (x₀ .started) (order-after tab (x₀ .closed))
   -- "and of the order given by the records of any healthy one that has closed at least as many. Later records never change that part."
