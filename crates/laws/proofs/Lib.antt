@@ -5,3 +5,4 @@ pub mod Sums
 pub mod Lists
 pub mod Sequences
 pub mod Folds
+pub mod Digits

@@ -10,3 +10,5 @@ pub mod Closing
 pub mod Nodes
 pub mod Canal
 pub mod Printed
+-- What follows from the definitions of specs/.
+pub mod Sizes

@@ -3,7 +3,7 @@ use mathlib.Core.Path.{_≡_, refl, sym, ap, _∙_}
 use mathlib.Core.List.{List, [], _∷_}
 use mathlib.Core.Bool.{Bool, true, false, _&&_}
 use Prim.Native.Nat.{ℕ, zero, suc, _+_, _-_, _*_, _≤_, _<_}
-use native.Mathlib.Nat.{mul-add, mul-assoc, add-assoc, mul-le-mul-left}
+use native.Mathlib.Nat.{mul-add, mul-assoc, add-assoc}
 use native.Mathlib.Omega.{arith}
 use borrow.Author.Tests.{lt-ltb, le-ltb, eq-eqb, ne-eqb}
 use lib.ListN.{length, drop, getD, drop-of-length-le, length-drop}
@@ -64,9 +64,3 @@ on-top-last s value scale k b i h = by ((0 <? k) && (b =? 0))
     by false =
         let e : length s - length (drop (i + 1) s) ≡ i + 1 = rw length-drop (omega arith) in
         rw e
-
--- a group stands below the next scale
-pub group-below : {value scale low : ℕ} → value < scale → low < 128 → value + scale * low < scale * 128
-group-below {value} {scale} {low} h l =
-    let m : low ≤ 127 = omega arith in
-    omega (arith, mul-le-mul-left scale m)

@@ -1,2 +1,3 @@
 -- Laws that the proofs of the functions share.
 pub mod Groups
+pub mod Putting

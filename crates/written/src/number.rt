@@ -1,9 +1,11 @@
 // "A number is written in groups of seven bits, lowest first, the top bit set on all groups but the last, shortest form, at most nine groups."
 ghost use mathlib.Core.Path.{_≡_};
-ghost use Prim.Native.Nat.{_+_, _*_, _^_, _<_, _≤_};
+ghost use Prim.Native.Nat.{_+_, _^_, _<_, _≤_};
 ghost use lib.ListN.{length, drop};
-ghost use Rattle.rules.specs.Numbers.{number};
-ghost use Rattle.written.specs.Numbers.{numberRead, last-group};
+ghost use lib.Seq.{sets};
+ghost use Rattle.rules.specs.Numbers.{number, number-bytes};
+ghost use Rattle.rules.specs.Written.{write-number};
+ghost use Rattle.written.specs.Numbers.{numberRead, last-group, writtenOf, left-from};
 
 // A number that was read and the place past it, or the refusal: 18 or 19.
 pub enum NumberRead {
@@ -54,4 +56,60 @@ pub fn read_number(bytes: &[u8], from: usize) -> NumberRead
         at += 1;
         before += 1;
     }
+}
+
+// How many bytes were written, or the refusal.
+pub enum Written {
+    Bytes(usize),
+    Refused(u64),
+}
+
+// How many bytes a number takes.
+pub(crate) fn number_size(value: u64) -> usize
+    requires { ⌜ value < 2 ^ 63 ⌝ }
+    ensures { λ r. ⌜ r ≡ length (number-bytes value) ⌝ }
+{
+    let mut rest = value;
+    let mut left: usize = 8;
+    while 128 <= rest {
+        rest /= 128;
+        left -= 1;
+    }
+    9 - left
+}
+
+// Stores a number that fits.
+pub(crate) fn put_number(bytes: &mut [u8], from: usize, value: u64)
+    requires { ⌜ (value < 2 ^ 63) × (from + length (number-bytes value) ≤ length (now bytes)) ⌝ }
+    ensures { λ _. ⌜ now (bytes .exit) ≡ sets (now (bytes .entry)) from (number-bytes value) ⌝ }
+{
+    let mut rest = value;
+    let mut left: usize = 8;
+    let mut at = from;
+    while 128 <= rest {
+        bytes[at] = (128 + rest % 128) as u8;
+        rest /= 128;
+        left -= 1;
+        at += 1;
+    }
+    bytes[at] = rest as u8;
+}
+
+// Writes a number from a place on: 22, then 21, and a refusal leaves the bytes as they were.
+pub fn write_number(bytes: &mut [u8], from: usize, value: u64) -> Written
+    ensures { λ r. ⌜ r ≡ writtenOf (write-number value (drop from (now (bytes .entry)))) ⌝ }
+    ensures { λ _. ⌜ now (bytes .exit) ≡ left-from from (now (bytes .entry)) (write-number value (drop from (now (bytes .entry)))) ⌝ }
+{
+    if 9223372036854775808 <= value {
+        return Written::Refused(22);
+    }
+    let size = number_size(value);
+    if bytes.len() < from {
+        return Written::Refused(21);
+    }
+    if bytes.len() - from < size {
+        return Written::Refused(21);
+    }
+    put_number(bytes, from, value);
+    Written::Bytes(size)
 }

@@ -6,16 +6,13 @@ use native.Mathlib.Omega.{arith}
 use borrow.Author.Needs.{needs}
 use lib.Pow.{pow-mono, pow-add}
 use lib.ListN.{length, drop, getD}
+use Rattle.laws.proofs.Digits.{group-below}
 use Rattle.rules.specs.Numbers.{number, groups-after}
 use Rattle.written.specs.declared.number.NumberRead.the-variants.{Value, Refused}
 use Rattle.written.specs.Numbers.{numberRead, last-group}
-use Rattle.written.proofs.Groups.{groups-end, groups-last, groups-over, groups-more, on-top, on-top-start, on-top-stop, on-top-more, on-top-last, group-below}
+use Rattle.written.proofs.Groups.{groups-end, groups-last, groups-over, groups-more, on-top, on-top-start, on-top-stop, on-top-more, on-top-last}
 use Rattle.written.proofs.number.read_number.Statement.{statement}
 use Rattle.written.proofs.number.read_number.Tie as tie
-use Rattle.written.proofs.number.read_number.Reads as reads
-use Rattle.written.proofs.number.read_number.Lts as lts
-use Rattle.written.proofs.number.last_group.Reads as last-group-reads
-use Rattle.written.proofs.number.wide.Reads as wide-reads
 
 record Inv (s : List ℕ) (from value scale at before : ℕ) : Type 0 where
   few : before ≤ 8
@@ -62,71 +59,54 @@ Inv-loop bytes from value₀ scale₀ at₀ before₀ value scale at before = In
 abbrev μ-loop : tie.MeasureT-loop
 μ-loop bytes from value₀ scale₀ at₀ before₀ value scale at before = 9 - before
 
--- src/number.rt:41:5
 loop-holds : tie.Need-loop-holds Inv-loop μ-loop
 loop-holds c = inv-start _ _
 
--- src/number.rt:43:13
 returns : tie.Need-returns Inv-loop μ-loop
 returns c = search inv-end
 
--- src/number.rt:45:26
 shared-slice-read-wide : tie.Need-shared-slice-read-wide Inv-loop μ-loop
 shared-slice-read-wide c = search needs
 
--- src/number.rt:45:13
 wide-requires : tie.Need-wide-requires Inv-loop μ-loop
 wide-requires c κs = search needs
 
--- src/number.rt:47:47
 mul-last-group : tie.Need-mul-last-group Inv-loop μ-loop
 mul-last-group c = omega (arith, inv-sum (c .before .before .before .before .loop .inv) (c .if2 .taken))
 
--- src/number.rt:47:39
 add-last-group : tie.Need-add-last-group Inv-loop μ-loop
 add-last-group c = omega (arith, inv-sum (c .before .before .before .before .loop .inv) (c .if2 .taken))
 
--- src/number.rt:47:69
 add-last-group-2 : tie.Need-add-last-group-2 Inv-loop μ-loop
 add-last-group-2 c = search needs
 
--- src/number.rt:47:13
 last-group-requires : tie.Need-last-group-requires Inv-loop μ-loop
 last-group-requires c κs = search needs
 
--- src/number.rt:47:13
 returns-2 : tie.Need-returns-2 Inv-loop μ-loop
 returns-2 c = c .last-group .ensures ∙ search inv-last
 
--- src/number.rt:50:13
 returns-3 : tie.Need-returns-3 Inv-loop μ-loop
 returns-3 c = search inv-over
 
--- src/number.rt:52:18
 mul-value : tie.Need-mul-value Inv-loop μ-loop
 mul-value c = omega (arith, inv-sum (c .before .before .before .before .before .loop .inv) {low = c .before .before .wide .result - 128} (omega arith))
 
--- src/number.rt:52:9
 add-value : tie.Need-add-value Inv-loop μ-loop
 add-value c = omega (arith, inv-sum (c .before .before .before .before .before .loop .inv) {low = c .before .before .wide .result - 128} (omega arith))
 
--- src/number.rt:53:9
 mul-scale : tie.Need-mul-scale Inv-loop μ-loop
 mul-scale c = omega (arith, inv-scale (c .before .before .before .before .before .loop .inv))
 
--- src/number.rt:54:9
 add-at : tie.Need-add-at Inv-loop μ-loop
 add-at c = search needs
 
--- src/number.rt:55:9
 add-before : tie.Need-add-before Inv-loop μ-loop
 add-before c = search needs
 
--- src/number.rt:41:5
 loop-less : tie.Need-loop-less Inv-loop μ-loop
 loop-less c = search needs
 
--- src/number.rt:41:5
 loop-again : tie.Need-loop-again Inv-loop μ-loop
 loop-again c = search inv-more
 
