@@ -1,21 +1,26 @@
 -- Folds as a loop from the last element down makes them, and sets as the bits of a number.
 --     fold-start, fold-next, fold-end     the laws by which such a loop's proof goes
+--     fill-start, fill-next, fill-end     a loop that writes what each element stands for into an array
+--     rows-of                             the first n of a sequence that is read off a list
 --     foldr-map, foldr-same               a fold over what each element stands for; steps that agree
---     bits-next, bits-small               the same loop, with the number in its bounds
+--     gather-start, -small, -next, -end   the same loop, where it makes a set
 --     ones-bits, none-bits, some-bits     how many are in a set, and which is the lowest
 use mathlib.Core.Path.{_≡_, refl, sym, _∙_, ap, ap₂}
 use mathlib.Core.Bool.{Bool, true, false}
 use mathlib.Core.Option.{Option, none, some}
 use mathlib.Core.List.{List, [], _∷_, _++_, map, foldr, foldr-append}
 use Prim.Native.Nat.{ℕ, zero, suc, _+_, _-_, _*_, _/_, _%_, _^_, _≤_, _<_}
-use native.Mathlib.Nat.{lt-of-lt-of-le, pow-suc}
+use native.Mathlib.Nat.{lt-of-lt-of-le, one-le-pow, pow-suc}
 use native.Mathlib.Omega.{arith}
 use lib.Count.{ones, ones-step, trailingZeros, under}
-use lib.ListN.{length, take, getD}
+use lib.ListN.{length, take, set, getD, length-map}
 use lib.Pow.{pow-mono}
-use lib.Seq.{take-suc}
+use lib.Seq.{take-suc, length-take-le}
+use native.Mathlib.Numerals.{add-one}
 use Rattle.laws.specs.Tests.{if_then_else_, or-else, maybe}
 use Rattle.laws.specs.Search.{lowest, number-of}
+use Rattle.laws.specs.Lists.{rows, pad}
+use Rattle.laws.proofs.Lists.{map-append, pad-snoc}
 
 module _ {A B : Type 0} (f : A → B → B) where
   -- the fold over the first n from b is what is left, the fold over the first i from v
@@ -24,8 +29,8 @@ module _ {A B : Type 0} (f : A → B → B) where
     pub to : i ≤ n
     pub is : foldr f b (take n l) ≡ foldr f v (take i l)
 
-  pub fold-start : {l : List A} {n : ℕ} {b : B} → n ≤ length l → Folded l n b n b
-  fold-start h = record { inside = h; to = omega arith; is = refl }
+  pub fold-start : {l : List A} {n : ℕ} {b : B} (k : ℕ) → length l ≡ k → n ≤ k → Folded l n b n b
+  fold-start k e h = record { inside = omega arith; to = omega arith; is = refl }
 
   pub fold-next : {l : List A} {n : ℕ} {b : B} {i : ℕ} {v : B} (d : A) → Folded l n b i v → 0 < i → {w : B} → w ≡ f (getD l (i - 1) d) v → Folded l n b (i - 1) w
   fold-next {l} {n} {b} {i} {v} d h p {w} e =
@@ -50,6 +55,44 @@ module _ {A B : Type 0} (f : A → B → B) where
   foldr-same g h b [] = refl
   foldr-same g h b (x ∷ l) = ap (f x) (foldr-same g h b l) ∙ h x (foldr g b l)
 
+-- the first i of the first n of a list, each as what it stands for, in an array of k places
+module _ {A B : Type 0} (f : A → B) (k : ℕ) (blank : B) where
+  pub record Filled (l : List A) (n i : ℕ) (out : List B) : Type 0 where
+    pub few : n ≤ k
+    pub inside : n ≤ length l
+    pub to : i ≤ n
+    pub is : out ≡ pad k blank (map f (take i l))
+
+  pub fill-start : {l : List A} {n : ℕ} {out : List B} → n ≤ k → length l ≡ k → out ≡ pad k blank [] → Filled l n 0 out
+  fill-start h e p = record { few = h; inside = omega arith; to = omega arith; is = p }
+
+  module _ {l : List A} {n i : ℕ} {out : List B} (v : Filled l n i out) where
+    pub fill-next : (d : A) → i < n → {x : B} → x ≡ f (getD l i d) → Filled l n (i + 1) (set out i x)
+    fill-next d h {x} e =
+        let p : i < length l = omega (arith, v .inside) in
+        let j : length (map f (take i l)) ≡ i = length-map (take i l) f ∙ length-take-le i l (omega arith) in
+        let m : take (i + 1) l ≡ take i l ++ (getD l i d ∷ []) = rw (add-one i) (take-suc l i d p) in
+        record {
+          few = v .few;
+          inside = v .inside;
+          to = omega arith;
+          is = ap₂ (λ (o : List B) (j : ℕ). set o j x) (v .is) (sym j)
+              ∙ pad-snoc k blank (map f (take i l)) x (omega (arith, v .few))
+              ∙ rw (e, m, map-append f (take i l) (getD l i d ∷ []));
+        }
+
+    pub fill-end : n ≤ i → out ≡ pad k blank (map f (take n l))
+    fill-end h =
+        let e : i ≡ n = omega (arith, v .to) in
+        v .is ∙ rw e
+
+-- the first n of a sequence that is read off a list
+pub rows-of : {A B : Type 0} (f : A → B) (d : A) (l : List A) (n : ℕ) → n ≤ length l → rows (λ i. f (getD l i d)) n ≡ map f (take n l)
+unfolding rows
+rows-of f d l zero h = refl
+rows-of f d [] (suc n) h = absurd (omega arith)
+rows-of {B = B} f d (x ∷ l) (suc n) h = ap (λ (r : List B). f x ∷ r) (rows-of f d l n (omega arith))
+
 -- one bit more, below the others
 abbrev pub with-bit : Bool → ℕ → ℕ
 with-bit t s = s * 2 + (if t then 1 else 0)
@@ -70,15 +113,34 @@ high : (t : Bool) (s : ℕ) → with-bit t s / 2 ≡ s
 high true s = omega arith
 high false s = omega arith
 
-pub bits-next : (t : Bool) {s i : ℕ} → s < 2 ^ (15 - i) → 0 < i → i ≤ 15 → with-bit t s < 2 ^ (15 - (i - 1))
-bits-next t {s} {i} h p q =
-    let e : 15 - (i - 1) ≡ suc (15 - i) = omega arith in
-    rw (e, pow-suc 2 (15 - i)) (omega (arith, bit-below t))
+module _ {A : Type 0} (f : A → Bool) where
+  -- such a set of at most fifteen, gathered from the last place down to i
+  pub record Gathered (l : List A) (n i s : ℕ) : Type 0 where
+    pub rest : Folded (λ x s. with-bit (f x) s) l n 0 i s
+    pub few : n ≤ 15
+    pub below : s < 2 ^ (15 - i)
 
-pub bits-small : {s i : ℕ} → s < 2 ^ (15 - i) → 0 < i → s < 16384
-bits-small {s} {i} h p =
-    let k : 15 - i ≤ 14 = omega arith in
-    lt-of-lt-of-le h (pow-mono k)
+  pub gather-start : {l : List A} {n : ℕ} → length l ≡ 15 → n ≤ 15 → Gathered l n n 0
+  gather-start {l} {n} e h = record { rest = fold-start _ 15 e h; few = h; below = one-le-pow (15 - n) 2 (omega arith) }
+
+  module _ {l : List A} {n i s : ℕ} (v : Gathered l n i s) where
+    pub gather-small : 0 < i → s < 16384
+    gather-small p =
+        let k : 15 - i ≤ 14 = omega arith in
+        lt-of-lt-of-le (v .below) (pow-mono k)
+
+    pub gather-next : (d : A) → 0 < i → {t : Bool} → t ≡ f (getD l (i - 1) d) → {w : ℕ} → w ≡ with-bit t s → Gathered l n (i - 1) w
+    gather-next d p {t} e {w} g =
+        let k : 15 - (i - 1) ≡ suc (15 - i) = omega (arith, v .rest .to, v .few) in
+        record {
+          rest = fold-next _ d (v .rest) p (g ∙ ap (λ (t : Bool). with-bit t s) e);
+          few = v .few;
+          below = rw (g, k, pow-suc 2 (15 - i)) (omega (arith, bit-below t, v .below));
+        }
+
+    pub gather-end : i ≤ 0 → s ≡ bits f (take n l)
+    unfolding bits
+    gather-end p = fold-end _ (v .rest) p
 
 module _ {A : Type 0} (f : A → Bool) where
   pub ones-bits : (l : List A) → ones (bits f l) ≡ number-of f l

@@ -1,0 +1,17 @@
+-- `judge::counts` meets its contract. Assumes nothing.
+use borrow.Author.Tests.{eq-eqb, ne-eqb}
+use Rattle.judge.proofs.counts.Statement.{statement}
+use Rattle.judge.proofs.counts.Tie as tie
+use Rattle.judge.proofs.counts.Reads as reads
+use Rattle.judge.proofs.counts.Lts as lts
+
+-- src/lib.rt:50:9
+returns : tie.Need-returns
+returns c = simp (eq-eqb _ _ (c .if1 .taken))
+
+-- src/lib.rt:46:1
+returns-2 : tie.Need-returns-2
+returns-2 c = simp (ne-eqb _ _ (c .if1 .left))
+
+pub counts-spec : {M : Type 1} → statement M
+counts-spec = tie.close (tie.spec returns returns-2)

@@ -1,0 +1,23 @@
+-- `judge::nearer` meets its contract. Assumes nothing.
+use borrow.Author.Tests.{eq-eqb, ne-eqb}
+use borrow.Author.Needs.{needs}
+use Rattle.judge.proofs.nearer.Statement.{statement}
+use Rattle.judge.proofs.nearer.Tie as tie
+use Rattle.judge.proofs.nearer.Reads as reads
+use Rattle.judge.proofs.nearer.Lts as lts
+use Rattle.judge.proofs.smaller.Reads as smaller-reads
+
+-- src/lib.rt:74:9
+smaller-requires : tie.Need-smaller-requires
+smaller-requires c κs = search needs
+
+-- src/lib.rt:74:9
+returns : tie.Need-returns
+returns c = simp (eq-eqb _ _ (c .before .if1 .taken)) (c .smaller .ensures)
+
+-- src/lib.rt:70:1
+returns-2 : tie.Need-returns-2
+returns-2 c = simp (ne-eqb _ _ (c .if1 .left))
+
+pub nearer-spec : {M : Type 1} → statement M
+nearer-spec = tie.close (tie.spec smaller-requires returns returns-2)
