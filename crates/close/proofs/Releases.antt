@@ -1,22 +1,35 @@
 -- Laws of the checks of a list of releases.
+--     release-here, releases-end                 the list of a record, from a place on
+--     task-unknown, delay-long, delay-falls, release-fits     15 of one release
+--     listed-none, listed-bad, listed-more       15 of a list, release by release
+--     listable                                   what 3 and 15 leave of each release: no sum wraps
+--     early-none, early-bad, early-more          16 of a list, release by release
 use mathlib.Core.Path.{_≡_, refl, sym, ap, _∙_}
 use mathlib.Core.Bool.{Bool, true, false, _||_}
-use mathlib.Core.List.{List, [], _∷_}
-use Prim.Native.Nat.{ℕ, zero, suc, _+_, _≤_, _<_}
+use mathlib.Core.List.{List, [], _∷_, foldl}
+use Prim.Native.Nat.{ℕ, zero, suc, _+_, _^_, _≤_, _<_}
 use native.Mathlib.Omega.{arith}
-use borrow.Author.Tests.{lt-ltb, le-ltb, le-leb, lt-leb}
-use lib.ListN.{length, getD, drop, drop-of-length-le}
+use borrow.Author.Tests.{lt-ltb, le-ltb, le-leb, lt-leb, ltb-true, ltb-false, leb-false}
+use lib.ListN.{length, getD, set, drop, drop-of-length-le}
 use Rattle.laws.specs.Tests.{_<?_, _≤?_, if_then_else_, any-of}
 use Rattle.laws.specs.Lists.{rows}
+use Rattle.laws.proofs.Tests.{none-of}
 use Rattle.laws.proofs.Lists.{drop-here, length-rows, rows-at}
+use Rattle.table.specs.declared.Table as code
+use Rattle.table.specs.Table.{tableOf, row, Checked}
 use Rattle.round.specs.declared.Round.{Round}
 use Rattle.round.specs.Round.{releaseOf, releasesOf, no-release}
-use Rattle.rules.specs.Table.{Table}
+use Rattle.rules.specs.Table.{Task, Table, task}
 use Rattle.rules.specs.Judge.{Release}
-use Rattle.rules.specs.Close.{ill-listed}
+use Rattle.rules.specs.Insert.{next-E}
+use Rattle.rules.specs.Close.{ill-listed, ill-formed, too-early}
+use Rattle.rules.proofs.Tables.{Fit, Keeps, Small, fit}
 use Rattle.close.specs.declared.listing.Listed.{Listed}
 use Rattle.close.specs.declared.listing.Listed.the-variants.{Fits, Refused}
-use Rattle.close.specs.Listing.{listing}
+use Rattle.close.specs.declared.spacing.Admit.{Admit}
+use Rattle.close.specs.declared.spacing.Admit.the-variants as admit
+use Rattle.close.specs.Listing.{listing, Listable}
+use Rattle.close.specs.Spacing.{admission}
 
 -- the list that a record stands for, from a place on
 module _ (q : Round) (i : ℕ) where
@@ -84,3 +97,85 @@ module _ (tab : Table) (least : ℕ) where
         by false false false e =
             let z : x .delay ≡ d = cc in
             or-no (ill-listed tab (x .delay) xs) ∙ ap (λ (k : ℕ). ill-listed tab k xs) z
+
+-- what a list that stands says of each release
+each-listed : (tab : Table) (least : ℕ) (xs : List Release) (d : Release) → ill-listed tab least xs ≡ false → (i : ℕ) → i < length xs
+    → ((getD xs i d) .task-of < length (tab .tasks)) × ((getD xs i d) .delay < tab .timeout)
+unfolding ill-listed
+each-listed tab least [] d h i l = absurd (omega arith)
+each-listed tab least (x ∷ xs) d h zero l = let k = none-of _ h in (leb-false _ _ (k 0), leb-false _ _ (k 1))
+each-listed tab least (x ∷ xs) d h (suc i) l = let k = none-of _ h in each-listed tab (x .delay) xs d (k 3) i (omega arith)
+
+-- "not r + delay": the release time, and E after it, lie less than 2^34 past r
+pub record Soon (t : code.Table) (x : Release) : Type 0 where
+  pub known : x .task-of < 64
+  pub delayed : x .delay < 2 ^ 32
+  pub apart : getD (t .distance) (x .task-of) 0 < 2 ^ 32
+  pub distance : (task (tableOf t) (x .task-of)) .T ≡ getD (t .distance) (x .task-of) 0
+
+module _ {t : code.Table} {q : Round} (v : Listable t q) where
+  fits : Fit (tableOf t)
+  fits = fit (v .checked .passes)
+
+  count-is : length (rows (row t) (t .count)) ≡ t .count
+  count-is = length-rows (row t) (t .count)
+
+  pub few-listed : q .listed ≤ 64
+  unfolding ill-formed
+  few-listed =
+      let k = none-of _ (v .formed) in
+      let h : length (releasesOf q) ≤ 64 = ltb-false _ _ (k 0) in
+      omega (arith, length-rows (λ i. releaseOf (getD (q .releases) i no-release)) (q .listed))
+
+  pub listable : (i : ℕ) → i < q .listed → Soon t (releaseOf (getD (q .releases) i no-release))
+  unfolding ill-formed
+  listable i l =
+      let k = none-of _ (v .formed) in
+      let at : ℕ → Release = λ j. releaseOf (getD (q .releases) j no-release) in
+      let e = each-listed (tableOf t) 0 (rows at (q .listed)) (releaseOf no-release) (k 3) i (omega (arith, length-rows at (q .listed))) in
+      let here : getD (rows at (q .listed)) i (releaseOf no-release) ≡ at i = rows-at at (q .listed) i (releaseOf no-release) l in
+      let a : (at i) .task-of < length (rows (row t) (t .count)) = rw here at (e .0) in
+      let b : (at i) .delay < t .timeout = rw here at (e .1) in
+      let known : (at i) .task-of < t .count = omega (arith, count-is) in
+      let first = fits .each 0 (fits .tasks .0) in
+      let is : task (tableOf t) ((at i) .task-of) ≡ row t ((at i) .task-of) = rows-at (row t) (t .count) ((at i) .task-of) _ known in
+      let T-is : (task (tableOf t) ((at i) .task-of)) .T ≡ getD (t .distance) ((at i) .task-of) 0 = ap (λ (k : Task). k .T) is in
+      record {
+        known = omega (arith, fits .tasks .1, count-is);
+        delayed = omega (arith, first .timely, first .small .C-small);
+        apart = omega (arith, T-is, fits .each ((at i) .task-of) a .small .T-small);
+        distance = T-is;
+      }
+
+-- the check of one release against E
+pub comes-early : {earliest time : ℕ} → time < earliest → admit.Refused 16 ≡ admission earliest time
+unfolding admission
+comes-early {earliest} {time} h = rw (lt-ltb time earliest h)
+
+pub comes-in-time : {earliest time : ℕ} → earliest ≤ time → admit.At time ≡ admission earliest time
+unfolding admission
+comes-in-time {earliest} {time} h = rw (le-ltb time earliest h)
+
+-- 16, release by release
+module _ (tab : Table) (r : ℕ) (E : List ℕ) where
+  pub early-none : too-early tab r E [] ≡ false
+  unfolding too-early
+  early-none = refl
+
+  module _ (x : Release) (xs : List Release) {a : Admit} (p : a ≡ admission (getD E (x .task-of) 0) (r + x .delay)) where
+    pub early-bad : {k : ℕ} → a ≡ admit.Refused k → too-early tab r E (x ∷ xs) ≡ true
+    unfolding too-early admission
+    early-bad {k} g = by (r + x .delay <? getD E (x .task-of) 0) (sym p ∙ g)
+      where
+        by : (b : Bool) → (if b then admit.Refused 16 else admit.At (r + x .delay)) ≡ admit.Refused k → b || too-early tab r (next-E tab r E x) xs ≡ true
+        by true e = refl
+        by false e = let z : _≡_ {A = ℕ} 0 1 = cc in absurd (omega arith)
+
+    pub early-more : {at : ℕ} → a ≡ admit.At at → (at ≡ r + x .delay) × (too-early tab r E (x ∷ xs) ≡ too-early tab r (next-E tab r E x) xs)
+    unfolding too-early admission
+    early-more {at} g = by (r + x .delay <? getD E (x .task-of) 0) (sym p ∙ g)
+      where
+        by : (b : Bool) → (if b then admit.Refused 16 else admit.At (r + x .delay)) ≡ admit.At at
+            → (at ≡ r + x .delay) × (b || too-early tab r (next-E tab r E x) xs ≡ too-early tab r (next-E tab r E x) xs)
+        by true e = let z : _≡_ {A = ℕ} 0 1 = cc in absurd (omega arith)
+        by false e = (let z : r + x .delay ≡ at = cc in sym z, refl)

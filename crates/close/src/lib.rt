@@ -1,2 +1,3 @@
 // A round record applied to a common record: refusals 3, 14, 15, 16 and 17, and the close.
 mod listing;
+mod spacing;
