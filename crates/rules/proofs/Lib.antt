@@ -1,4 +1,4 @@
--- What follows from the rules, a file each: laws, then the worked canal.
+-- What follows from the rules, a file each: the laws, the round trips, the worked canal, and demand 3.
 pub mod Answers
 pub mod Tables
 pub mod Projecting
@@ -8,7 +8,14 @@ pub mod Judging
 pub mod Releasing
 pub mod Closing
 pub mod Nodes
+pub mod Sizes
 pub mod Canal
 pub mod Printed
--- What follows from the definitions of specs/.
-pub mod Sizes
+pub mod Basis
+pub mod Permits
+pub mod Rising
+pub mod Ordered
+pub mod Invariant
+pub mod Calls
+pub mod Runs
+pub mod Demand
