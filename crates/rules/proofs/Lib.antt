@@ -9,6 +9,7 @@ pub mod Releasing
 pub mod Closing
 pub mod Nodes
 pub mod Sizes
+pub mod History
 pub mod Canal
 pub mod Printed
 pub mod Basis

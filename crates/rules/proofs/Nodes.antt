@@ -6,7 +6,7 @@ use mathlib.Core.List.{List}
 use Prim.Native.Nat.{ℕ, _+_, _^_, _≤_, _<_, max}
 use native.Mathlib.Omega.{arith}
 use lib.ListN.{getD}
-use borrow.Author.Tests.{ltb-false, leb-true, leb-false, eqb-true, eqb-false, not-true, not-false}
+use borrow.Author.Tests.{ltb-false, leb-true, leb-false, lt-ltb, eqb-true, eqb-false, not-true, not-false}
 use Rattle.laws.specs.Tests.{_<?_, _≤?_, _=?_, if_then_else_, found, maybe}
 use Rattle.laws.proofs.Tests.{if-cases, and-yes, not-found, none≢some, some-same}
 use Rattle.rules.specs.Answer.{Answer, done, refuse_if_else_}
@@ -64,6 +64,25 @@ started tab n now h =
     let e = passed 8 (beyond-lock n) (d .1) in
     let f = passed-naming 9 (broken-now tab n now) (e .1) in
     (record { on-time = a .0; idle = b .0; more = eqb-false _ _ (d .0); locked = e .0; bounded = f .0 }, sym (same-done (f .1)))
+
+-- "Permitted if the position is ≤ O, or ≤ the lock while a round is open, or, with no round open, if the bound holds now."
+pub data Permitted (tab : Table) (n : Node) (now : ℕ) : Type 0 where
+  by-offset : n .progress + 1 ≤ (n .common) .O → Permitted tab n now
+  by-lock : (o : Open) → n .round ≡ some o → n .progress + 1 ≤ lock o → Permitted tab n now
+  by-bound : n .round ≡ none → within-bound tab (n .common) (n .progress + 1) now ≡ true → Permitted tab n now
+
+pub permitted : {tab : Table} {n : Node} {now : ℕ} → MayStart tab n now → Permitted tab n now
+unfolding beyond-lock broken-now
+permitted {tab} {n} {now} m = by (n .round) refl (m .locked) (n .progress + 1 ≤? (n .common) .O) refl (m .bounded)
+  where
+    by : (o : Option Open) → n .round ≡ o → maybe false (λ o. ((n .common) .O <? n .progress + 1) && (lock o <? n .progress + 1)) o ≡ false
+        → (t : Bool) → (n .progress + 1 ≤? (n .common) .O) ≡ t → found (if found o || t then none else breaker tab (n .common) (n .progress + 1) now) ≡ false
+        → Permitted tab n now
+    by o e g true f h = by-offset (leb-true _ _ f)
+    by none e g false f h = by-bound e (rw h)
+    by (some o) e g false f h =
+        let k : (n .common) .O < n .progress + 1 = leb-false _ _ f in
+        by-lock o e (ltb-false _ _ (rw (lt-ltb ((n .common) .O) (n .progress + 1) k) at g))
 
 pub record MayFinish (n : Node) (now : ℕ) : Type 0 where
   pub on-time : OnTime n now
