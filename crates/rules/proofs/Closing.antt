@@ -13,12 +13,12 @@ use Rattle.laws.proofs.Tests.{none-of, none≢some}
 use Rattle.rules.specs.Answer.{Answer, done}
 use Rattle.rules.specs.Table.{Table}
 use Rattle.rules.specs.Common.{Job, Common, no-job, fresh, L}
-use Rattle.rules.specs.Judge.{Round, new-O, new-B, new-W}
+use Rattle.rules.specs.Judge.{Report, Round, numbers, counts, new-O, new-B, new-W}
 use Rattle.rules.specs.Close.{Closed, Verdict, close, too-late, too-soon, ill-formed, ill-listed, too-early, too-many, judged, applied, verdict}
 use Rattle.rules.specs.Sound.{Sound}
 use Rattle.rules.proofs.Answers.{passed, same-done}
 use Rattle.rules.proofs.Tables.{Fit, timeout-small}
-use Rattle.rules.proofs.Judging.{O-rises, O-within, B-rises, B-within, W-rises, W-within}
+use Rattle.rules.proofs.Judging.{O-rises, O-within, O-reaches, B-rises, B-within, W-rises, W-within}
 use Rattle.rules.proofs.Releasing.{Released, releases-keep, releases-sound, E-rises}
 
 -- the tests that an accepted record passed
@@ -62,35 +62,62 @@ pub record Onward (c d : Common) : Type 0 where
   pub grows : L c ≤ L d
   pub order : take (d .O - d .B) (d .kept) ≡ take (d .O - d .B) (drop (d .B - c .B) (c .kept))
 
--- whether the record would be accepted or not
-module _ (tab : Table) (c : Common) (q : Round) (b : c .B ≤ c .O) (o : c .O ≤ L c) where
-  pub judged-between : ((judged tab c q) .B ≤ (judged tab c q) .O) × ((judged tab c q) .O ≤ L c)
-  unfolding judged
-  judged-between = (B-within tab c (q .r) (q .entries) b, O-within tab c (q .r) o (q .entries))
-
-  -- L stays: what is dropped stands at B
-  pub judged-long : L (judged tab c q) ≡ L c
-  unfolding judged
-  judged-long = simp length-drop (omega (arith, B-rises tab c (q .r) (q .entries), judged-between))
-
+-- what an applied record gives, whether it would be accepted or not
+module _ (tab : Table) (c : Common) (q : Round) where
   pub applied-keeps : Released (judged tab c q) (applied tab c q) (length (q .releases))
   unfolding applied
-  applied-keeps = releases-keep tab (q .r) (judged tab c q) (q .releases) (omega (arith, judged-between, judged-long))
+  applied-keeps = releases-keep tab (q .r) (judged tab c q) (q .releases)
 
-  pub applied-between : ((applied tab c q) .B ≤ (applied tab c q) .O) × ((applied tab c q) .O ≤ L (applied tab c q))
-  applied-between = let k = applied-keeps in (omega (arith, k .base, k .offset, judged-between), omega (arith, k .base, k .offset, k .more, judged-long, judged-between))
-
-  pub applied-onward : Onward c (applied tab c q)
+  pub applied-base : (applied tab c q) .B ≡ new-B tab c (q .r) (q .entries)
   unfolding judged
-  applied-onward =
-      let k = applied-keeps in
-      record {
-        base = omega (arith, k .base, B-rises tab c (q .r) (q .entries));
-        start = omega (arith, k .start, W-rises tab c (q .r) (q .entries));
-        offset = omega (arith, k .offset, O-rises tab c (q .r) (q .entries));
-        grows = omega (arith, k .base, k .more, judged-long);
-        order = rw (k .base, k .offset) (k .front);
-      }
+  applied-base = applied-keeps .base
+
+  pub applied-start : (applied tab c q) .W ≡ new-W tab c (q .r) (q .entries)
+  unfolding judged
+  applied-start = applied-keeps .start
+
+  pub applied-offset : (applied tab c q) .O ≡ new-O tab c (q .r) (q .entries)
+  unfolding judged
+  applied-offset = applied-keeps .offset
+
+  pub applied-last : (applied tab c q) .last ≡ some (q .r)
+  unfolding judged
+  applied-last = applied-keeps .last
+
+  -- an entry that counts is reached by the new offset
+  pub applied-reaches : (i : ℕ) → counts tab c (q .r) (getD (q .entries) i none) ≡ true
+      → (numbers (getD (q .entries) i none)) .progress + (numbers (getD (q .entries) i none)) .run ≤ (applied tab c q) .O
+  applied-reaches i h = omega (arith, applied-offset, O-reaches tab c (q .r) (q .entries) i h)
+
+  module _ (b : c .B ≤ c .O) (o : c .O ≤ L c) where
+    pub judged-between : ((judged tab c q) .B ≤ (judged tab c q) .O) × ((judged tab c q) .O ≤ L c)
+    unfolding judged
+    judged-between = (B-within tab c (q .r) (q .entries) b, O-within tab c (q .r) o (q .entries))
+
+    -- what is dropped stands up to the new base
+    pub judged-long : L (judged tab c q) ≡ L c
+    unfolding judged
+    judged-long = simp length-drop (omega (arith, B-rises tab c (q .r) (q .entries), judged-between))
+
+    pub applied-long : L (applied tab c q) ≡ L c + length (q .releases)
+    applied-long = omega (arith, applied-keeps .base, applied-keeps .more, judged-long)
+
+    pub applied-between : ((applied tab c q) .B ≤ (applied tab c q) .O) × ((applied tab c q) .O ≤ L (applied tab c q))
+    applied-between =
+        let k = applied-keeps in
+        (omega (arith, k .base, k .offset, judged-between), omega (arith, k .offset, applied-long, judged-between))
+
+    pub applied-onward : Onward c (applied tab c q)
+    unfolding judged
+    applied-onward =
+        let k = applied-keeps in
+        record {
+          base = omega (arith, k .base, B-rises tab c (q .r) (q .entries));
+          start = omega (arith, k .start, W-rises tab c (q .r) (q .entries));
+          offset = omega (arith, k .offset, O-rises tab c (q .r) (q .entries));
+          grows = omega (arith, applied-long);
+          order = rw (k .base, k .offset) (k .front (omega (arith, judged-between, judged-long)));
+        }
 
 module _ {tab : Table} {c : Common} (f : Fit tab) (s : Sound tab c) (q : Round) where
   pub judged-sound : q .r < 2 ^ 48 → Sound tab (judged tab c q)

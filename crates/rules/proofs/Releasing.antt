@@ -53,7 +53,7 @@ pub record Released (c d : Common) (k : ℕ) : Type 0 where
   pub offset : d .O ≡ c .O
   pub last : d .last ≡ c .last
   pub more : length (d .kept) ≡ length (c .kept) + k
-  pub front : take (c .O - c .B) (d .kept) ≡ take (c .O - c .B) (c .kept)
+  pub front : c .O - c .B ≤ length (c .kept) → take (c .O - c .B) (d .kept) ≡ take (c .O - c .B) (c .kept)
 
 -- a release that stands: neither 15 nor 16
 pub record Admitted (tab : Table) (r : ℕ) (E : List ℕ) (x : Release) : Type 0 where
@@ -62,15 +62,15 @@ pub record Admitted (tab : Table) (r : ℕ) (E : List ℕ) (x : Release) : Type 
   pub due : getD E (x .task-of) 0 ≤ r + x .delay
 
 module _ (tab : Table) (r : ℕ) where
-  pub release-keeps : (c : Common) (x : Release) → c .O - c .B ≤ length (c .kept) → Released c (release tab r c x) 1
+  pub release-keeps : (c : Common) (x : Release) → Released c (release tab r c x) 1
   unfolding release
-  release-keeps c x h = record {
+  release-keeps c x = record {
     base = refl;
     start = refl;
     offset = refl;
     last = refl;
     more = insert-long tab (x .task-of) (r + x .delay) (c .O - c .B) (c .kept);
-    front = insert-front tab (x .task-of) (r + x .delay) (c .O - c .B) (c .kept) h;
+    front = insert-front tab (x .task-of) (r + x .delay) (c .O - c .B) (c .kept);
   }
 
   then-keeps : {c d e : Common} {k : ℕ} → Released c d 1 → Released d e k → Released c e (suc k)
@@ -80,16 +80,14 @@ module _ (tab : Table) (r : ℕ) where
     offset = t .offset ∙ s .offset;
     last = t .last ∙ s .last;
     more = omega (arith, s .more, t .more);
-    front = (let z = t .front in rw (s .offset, s .base) at z) ∙ s .front;
+    front = λ h. (let z = t .front (omega (arith, s .base, s .offset, s .more)) in rw (s .offset, s .base) at z) ∙ s .front h;
   }
 
-  all-keep : (xs : List Release) (c : Common) → c .O - c .B ≤ length (c .kept) → Released c (foldl (release tab r) c xs) (length xs)
-  all-keep [] c h = record { base = refl; start = refl; offset = refl; last = refl; more = omega arith; front = refl }
-  all-keep (x ∷ xs) c h =
-      let s = release-keeps c x h in
-      then-keeps s (all-keep xs (release tab r c x) (omega (arith, s .base, s .offset, s .more)))
+  all-keep : (xs : List Release) (c : Common) → Released c (foldl (release tab r) c xs) (length xs)
+  all-keep [] c = record { base = refl; start = refl; offset = refl; last = refl; more = omega arith; front = λ h. refl }
+  all-keep (x ∷ xs) c = then-keeps (release-keeps c x) (all-keep xs (release tab r c x))
 
-  pub releases-keep : (c : Common) (xs : List Release) → c .O - c .B ≤ length (c .kept) → Released c (release-all tab r c xs) (length xs)
+  pub releases-keep : (c : Common) (xs : List Release) → Released c (release-all tab r c xs) (length xs)
   unfolding release-all
   releases-keep c xs = all-keep xs c
 
