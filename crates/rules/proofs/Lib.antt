@@ -20,3 +20,10 @@ pub mod Invariant
 pub mod Calls
 pub mod Runs
 pub mod Demand
+-- What follows from the definitions of specs/.
+-- What follows from the definitions of specs/. First the cases that compute, so that a changed definition is told there; then the laws.
+pub mod Canal
+pub mod Printed
+pub mod Vectors
+pub mod VectorsNode
+pub mod VectorsWritten
