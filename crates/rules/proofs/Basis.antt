@@ -37,7 +37,8 @@ pub record Basis (tab : Table) : Type 0 where
   pub order : OrderBasis tab
   pub timeout : 1 ≤ tab .timeout
   -- an entry of class 0 or 5 moves O up to its progress + run
-  pub counts : (c : Common) (q : Round) (i : ℕ) (e : Report) → getD (q .entries) i none ≡ some e → Good tab c (q .r) e → e .progress + e .run ≤ (applied tab c q) .O
+  pub counts : (qs : List Round) (q : Round) (i : ℕ) (e : Report) → getD (q .entries) i none ≡ some e → Good tab (common-after tab qs) (q .r) e
+      → e .progress + e .run ≤ offset-after tab (qs ++ (q ∷ []))
   -- what is neither malformed nor behind nor over the bound is of class 0 or 5
   pub judged : (c : Common) (r : ℕ) (e : Report) → e .run ≤ 1 → e .progress + e .run ≤ L c → e .completed ≤ r → c .B ≤ e .progress
       → Bounded tab c r (e .progress + e .run) → Good tab c r e

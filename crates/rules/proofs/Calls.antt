@@ -226,7 +226,7 @@ module _ {tab : Table} (K : Basis tab) where
 
     pub takes-in : (q : Round) (e : Report) → getD (q .entries) ((x .node) .number) none ≡ some e → Good tab ((x .node) .common) (q .r) e
         → e .progress + e .run ≤ (common-after tab (x .closed ++ (q ∷ []))) .O
-    takes-in q e h g = rw (K .order .one-more (x .closed) q, ← (v .history)) (K .counts ((x .node) .common) q ((x .node) .number) e h g)
+    takes-in q e h g = K .counts (x .closed) q ((x .node) .number) e h (subst (λ (c : Common). Good tab c (q .r) e) (v .history) g)
 
     close-covers : (q : Round) → left-behind (x .node) ≡ false → InRound (x .node) q → length (x .started) ≤ (common-after tab (x .closed ++ (q ∷ []))) .O
     close-covers q l i =
