@@ -1,14 +1,15 @@
 -- Demand 3 from what it rests on: the invariant of each node, and healthiness, which is used once.
 use mathlib.Core.Path.{_≡_, refl, sym, ap, _∙_, subst}
-use mathlib.Core.Bool.{Bool, true, false, true≢false}
+use mathlib.Core.Bool.{true}
 use mathlib.Core.Logic.{_⊎_, inl, inr, ⊎-elim}
 use mathlib.Core.Option.{Option, none, some}
 use mathlib.Core.List.{List, [], _∷_, _++_, append-assoc, append-nil, List·Memᴰ, Memᴰ·append-left}
-use Prim.Native.Nat.{ℕ, _≤_}
+use Prim.Native.Nat.{ℕ, _≤_, _<_}
 use native.Mathlib.Omega.{arith}
 use lib.ListN.{length}
+use borrow.Author.Tests.{ltb-true}
 use Rattle.laws.specs.Lists.{Prefix}
-use Rattle.laws.proofs.Tests.{none≢some}
+use Rattle.laws.proofs.Tests.{lt-or-ge, none≢some}
 use Rattle.rules.specs.Table.{Table}
 use Rattle.rules.specs.Common.{Common}
 use Rattle.rules.specs.Judge.{Report, Round}
@@ -19,7 +20,7 @@ use Rattle.rules.proofs.Ordered.{Later, others-order}
 use Rattle.rules.proofs.Basis.{offset-after, OrderBasis, Basis}
 use Rattle.rules.proofs.Rising.{Rising, mem-split, rising-apart, same-place}
 use Rattle.rules.proofs.Invariant.{Answered, Inv}
-use Rattle.rules.proofs.Calls.{O-rises, takes-in}
+use Rattle.rules.proofs.Calls.{O-up, O-past}
 use Rattle.rules.proofs.Runs.{trace-of, run-inv, run-later}
 
 abbrev said : ℕ → Report → Open
@@ -31,6 +32,9 @@ Alike x y = Prefix (y .closed) (x .closed) ⊎ Prefix (x .closed) (y .closed)
 
 abbrev Held : Watched → Round → Type 0
 Held x q = (left-behind (x .node) ≡ true) ⊎ Holds q x
+
+is-left : (x : Watched) → left-behind (x .node) ≡ true → (x .node) .progress < ((x .node) .common) .B
+is-left x h = ltb-true ((x .node) .progress) (((x .node) .common) .B) h
 
 module _ {tab : Table} (K : Basis tab) where
   -- q: the first record that x has not closed
@@ -45,14 +49,15 @@ module _ {tab : Table} (K : Basis tab) where
 
     -- it takes in all that x has started
     next-takes-in : Held x q → length (x .started) ≤ offset-after tab (x .closed ++ (q ∷ []))
-    next-takes-in = by (left-behind (x .node)) refl
+    next-takes-in = by (lt-or-ge ((x .node) .progress) (((x .node) .common) .B))
       where
-        by : (t : Bool) → left-behind (x .node) ≡ t → Held x q → length (x .started) ≤ offset-after tab (x .closed ++ (q ∷ []))
-        by true l h = omega (arith, v .stopped l .1, O-rises K v q)
-        by false l (inl k) = absurd (true≢false (sym k ∙ l))
-        by false l (inr k) =
+        by : ((x .node) .progress < ((x .node) .common) .B) ⊎ (((x .node) .common) .B ≤ (x .node) .progress) → Held x q
+            → length (x .started) ≤ offset-after tab (x .closed ++ (q ∷ []))
+        by (inl l) h = omega (arith, v .stopped l .1, O-up K v q)
+        by (inr l) (inl k) = absurd (omega (arith, is-left x k))
+        by (inr l) (inr k) =
             let g = v .locked l (said (q .r) (k .report)) (is-open-one (k .report) (k .was-sent)) in
-            omega (arith, g .1, takes-in K v q (k .report) (k .entry) (g .0), O-rises K v q)
+            omega (arith, g .1, O-past K v q (k .report) (k .entry) (g .0), O-up K v q)
 
   -- a report of x for a record of y
   module _ {x y : Watched} (v : Inv tab x) (w : Inv tab y) (held : (q : Round) (qs : List Round) → x .closed ++ (q ∷ qs) ≡ y .closed → Held x q)
@@ -76,12 +81,12 @@ module _ {tab : Table} (K : Basis tab) where
       not-closed m = absurd (omega (arith, v .older (said (q .r) e) o q m))
 
       -- it is the open one: then q is the first record that x has not closed
-      is-first : left-behind (x .node) ≡ false → (t : List Round) → x .closed ++ t ≡ y .closed → Judged
+      is-first : ((x .node) .common) .B ≤ (x .node) .progress → (t : List Round) → x .closed ++ t ≡ y .closed → Judged
       is-first l [] p = not-closed (mem-split before q behind (sym (append-nil (x .closed)) ∙ p ∙ at))
       is-first l (q₀ ∷ t) p = by (held q₀ t p)
         where
           by : Held x q₀ → Judged
-          by (inl k) = absurd (true≢false (sym k ∙ l))
+          by (inl k) = absurd (omega (arith, is-left x k))
           by (inr k) =
               let up : Rising (x .closed ++ (q₀ ∷ t)) = rw (← p) at (w .rising) in
               let o₀ = is-open-one v q₀ t up (k .report) (k .was-sent) in
@@ -92,11 +97,11 @@ module _ {tab : Table} (K : Basis tab) where
 
       is-open : Alike x y → Judged
       is-open (inl p) = not-closed (rw (← (p .whole)) (Memᴰ·append-left (p .rest) (mem-split before q behind at)))
-      is-open (inr p) = by (left-behind (x .node)) refl
+      is-open (inr p) = by (lt-or-ge ((x .node) .progress) (((x .node) .common) .B))
         where
-          by : (t : Bool) → left-behind (x .node) ≡ t → Judged
-          by true l = none≢some (sym (v .stopped l .0) ∙ o)
-          by false l = is-first l (p .rest) (p .whole)
+          by : ((x .node) .progress < ((x .node) .common) .B) ⊎ (((x .node) .common) .B ≤ (x .node) .progress) → Judged
+          by (inl l) = none≢some (sym (v .stopped l .0) ∙ o)
+          by (inr l) = is-first l (p .rest) (p .whole)
 
     report-judged : Alike x y → Sent x (q .r) e → Judged
     report-judged c m = ⊎-elim (λ o. is-open o c) (λ d. was-answered d c) (v .answered (said (q .r) e) m)

@@ -1,16 +1,16 @@
 -- The invariant of one node: what is so after any calls, whatever the other nodes do. It needs no healthiness.
 use mathlib.Core.Path.{_≡_}
-use mathlib.Core.Bool.{Bool, true, false}
+use mathlib.Core.Bool.{Bool}
 use mathlib.Core.Logic.{_⊎_}
 use mathlib.Core.Option.{Option, none, some}
 use mathlib.Core.List.{List, _∷_, _++_, List·Memᴰ}
-use Prim.Native.Nat.{ℕ, _+_, _≤_, max}
+use Prim.Native.Nat.{ℕ, _+_, _≤_, _<_, max}
 use lib.ListN.{length, getD}
 use Rattle.laws.specs.Tests.{if_then_else_}
 use Rattle.laws.specs.Lists.{Prefix}
 use Rattle.rules.specs.Table.{Table}
 use Rattle.rules.specs.Judge.{Report, Round}
-use Rattle.rules.specs.Node.{Open, Node, left-behind, lock}
+use Rattle.rules.specs.Node.{Open, Node, lock}
 use Rattle.rules.specs.Cabinet.{Watched}
 use Rattle.rules.specs.Agreement.{common-after, order-after, Good}
 use Rattle.rules.proofs.Basis.{Bounded}
@@ -31,12 +31,12 @@ pub record Inv (tab : Table) (x : Watched) : Type 0 where
   pub right : Prefix (x .started) (order-after tab (x .closed))
   pub count : length (x .started) ≡ (x .node) .progress + (if (x .node) .running then 1 else 0)
   pub past : (x .node) .completed ≤ (x .node) .latest
-  -- left behind: all that it has started is up to O, and stays
-  pub stopped : left-behind (x .node) ≡ true → ((x .node) .round ≡ none) × (length (x .started) ≤ ((x .node) .common) .O)
-  -- no round open: all that it has started past O is within the bound
-  pub free : left-behind (x .node) ≡ false → (x .node) .round ≡ none → Bounded tab ((x .node) .common) ((x .node) .latest) (length (x .started))
-  -- a round open: all that it has started is up to O or the lock, and its report is good
-  pub locked : left-behind (x .node) ≡ false → (w : Open) → (x .node) .round ≡ some w
+  -- left behind: no round is open, and all that it has started is up to O
+  pub stopped : (x .node) .progress < ((x .node) .common) .B → ((x .node) .round ≡ none) × (length (x .started) ≤ ((x .node) .common) .O)
+  -- not so, and no round open: all that it has started past O is within the bound
+  pub free : ((x .node) .common) .B ≤ (x .node) .progress → (x .node) .round ≡ none → Bounded tab ((x .node) .common) ((x .node) .latest) (length (x .started))
+  -- not so, and a round open: its report is good, and all that it has started is up to O or the lock
+  pub locked : ((x .node) .common) .B ≤ (x .node) .progress → (w : Open) → (x .node) .round ≡ some w
       → Good tab ((x .node) .common) (w .r) (w .sent) × (length (x .started) ≤ max (((x .node) .common) .O) (lock w))
   pub answered : (w : Open) → List·Memᴰ w (x .sent) → ((x .node) .round ≡ some w) ⊎ Answered tab ((x .node) .number) (x .closed) w
   -- the node's own clock: the r of its records rises

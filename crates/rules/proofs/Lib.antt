@@ -10,6 +10,16 @@ pub mod Closing
 pub mod Nodes
 pub mod Sizes
 pub mod History
+pub mod Ordered
+pub mod Rising
+pub mod Basis
+pub mod Invariant
+pub mod Permits
+pub mod Calls
+pub mod Runs
+pub mod Demand
+pub mod Whole
+pub mod Agreement
 pub mod Canal
 pub mod Printed
 pub mod Basis

@@ -1,4 +1,4 @@
--- What the tests of a node's calls say where they pass.
+-- What permits a start, and what lets a report count the next position.
 use mathlib.Core.Path.{_≡_, refl, sym}
 use mathlib.Core.Bool.{Bool, true, false, not, _&&_, _||_, false≢true, true≢false}
 use mathlib.Core.Logic.{_⊎_, inl, inr}
@@ -13,10 +13,6 @@ use Rattle.rules.specs.Table.{Table}
 use Rattle.rules.specs.Common.{Common, L, breaker, within-bound, projection}
 use Rattle.rules.specs.Judge.{Report, Round}
 use Rattle.rules.specs.Node.{Open, Node, lock, beyond-lock, broken-now, next-soon, other-round, as-sent, not-as-sent}
-
-pub not-found : {A : Type 0} (o : Option A) → found o ≡ false → o ≡ none
-not-found none h = refl
-not-found (some a) h = absurd (true≢false h)
 
 -- 8: with a round open, the next position is up to O or the lock
 pub in-lock : (n : Node) (w : Open) → n .round ≡ some w → beyond-lock n ≡ false → n .progress + 1 ≤ max ((n .common) .O) (lock w)
@@ -47,33 +43,3 @@ next-is tab n r h =
     let may : Bool = (n .progress + 1 ≤? (n .common) .O) || within-bound tab (n .common) (n .progress + 1) r in
     let a = and-yes exists may ((and-yes (exists && may) (projection tab (n .common) (n .progress) <? r + tab .timeout) h) .0) in
     record { there = leb-true _ _ (a .0); may = λ l. rw (lt-leb (n .progress + 1) ((n .common) .O) l) at (a .1) }
-
--- 12 and 13: a round is open, of the record's r, and the own entry is as sent
-pub record InRound (n : Node) (q : Round) : Type 0 where
-  pub w : Open
-  pub is-open : n .round ≡ some w
-  pub same-r : q .r ≡ w .r
-  pub entry : getD (q .entries) (n .number) none ≡ some (w .sent)
-
-same-report : (e : Report) (o : Option Report) → as-sent e o ≡ true → o ≡ some e
-same-report e none h = absurd (false≢true h)
-same-report e (some d) h =
-    let a = and-yes ((e .progress =? d .progress) && (e .completed =? d .completed)) (e .run =? d .run) h in
-    let b = and-yes (e .progress =? d .progress) (e .completed =? d .completed) (a .0) in
-    let p : e .progress ≡ d .progress = eqb-true _ _ (b .0) in
-    let c : e .completed ≡ d .completed = eqb-true _ _ (b .1) in
-    let u : e .run ≡ d .run = eqb-true _ _ (a .1) in
-    λ i. some (record { progress = sym p i; completed = sym c i; run = sym u i })
-
-pub in-round : (n : Node) (q : Round) → other-round n q ≡ false → not-as-sent n q ≡ false → InRound n q
-in-round n q = by (n .round) refl
-  where
-    by : (o : Option Open) → n .round ≡ o → maybe true (λ o. not (o .r =? q .r)) o ≡ false
-        → maybe true (λ o. not (as-sent (o .sent) (getD (q .entries) (n .number) none))) o ≡ false → InRound n q
-    by none e a b = absurd (true≢false a)
-    by (some w) e a b = record {
-      w = w;
-      is-open = e;
-      same-r = sym (eqb-true (w .r) (q .r) (not-false _ a));
-      entry = same-report (w .sent) (getD (q .entries) (n .number) none) (not-false _ b);
-    }

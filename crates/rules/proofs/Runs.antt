@@ -1,6 +1,6 @@
 -- Runs of a cabinet: every node keeps the invariant, and what a node is later follows what it was.
 use mathlib.Core.Path.{_≡_, refl}
-use mathlib.Core.Bool.{Bool, true, false, false≢true}
+use mathlib.Core.Bool.{Bool, true, false}
 use mathlib.Core.List.{List, [], _∷_, _++_, foldl, foldl-append, List·Memᴰ·not-nil}
 use Prim.Native.Nat.{ℕ}
 use native.Mathlib.Omega.{arith}
@@ -24,7 +24,7 @@ fresh-inv tab i = record {
   right = record { rest = order-after tab []; whole = refl };
   count = refl;
   past = omega arith;
-  stopped = λ l. absurd (false≢true l);
+  stopped = λ l. absurd (omega arith);
   free = λ l o p h k. absurd (omega arith);
   locked = λ l w o. none≢some o;
   answered = λ w m. absurd (List·Memᴰ·not-nil m);
