@@ -37,3 +37,8 @@ pub mod Printed
 pub mod Vectors
 pub mod VectorsNode
 pub mod VectorsWritten
+pub mod Sizes
+pub mod Reading
+pub mod Trip
+pub mod Back
+pub mod RoundTrips

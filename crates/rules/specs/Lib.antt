@@ -8,6 +8,7 @@ pub mod Close
 pub mod Node
 pub mod Numbers
 pub mod Written
+pub mod RoundTrips
 pub mod Session
 pub mod Sound
 pub mod Cabinet
