@@ -22,22 +22,9 @@ pub mod Whole
 pub mod Agreement
 pub mod Canal
 pub mod Printed
-pub mod Basis
-pub mod Permits
-pub mod Rising
-pub mod Ordered
-pub mod Invariant
-pub mod Calls
-pub mod Runs
-pub mod Demand
--- What follows from the definitions of specs/.
--- What follows from the definitions of specs/. First the cases that compute, so that a changed definition is told there; then the laws.
-pub mod Canal
-pub mod Printed
 pub mod Vectors
 pub mod VectorsNode
 pub mod VectorsWritten
-pub mod Sizes
 pub mod Reading
 pub mod Trip
 pub mod Back
