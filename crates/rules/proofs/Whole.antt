@@ -65,7 +65,7 @@ module _ (tab : Table) (w : Whole) (q : Round) (p : Placed w) where
   between = applied-between tab (w .now) q (p .base) (p .offset)
 
   base-within : (applied tab (w .now) q) .B ≤ L (w .now)
-  base-within = omega (arith, (applied-keeps tab (w .now) q (p .base) (p .offset)) .base, judged-between tab (w .now) q (p .base) (p .offset))
+  base-within = omega (arith, (applied-keeps tab (w .now) q) .base, judged-between tab (w .now) q (p .base) (p .offset))
 
   apply-placed : Placed (apply-whole tab w q)
   unfolding apply-whole
@@ -131,9 +131,8 @@ module _ (tab : Table) where
   unfolding judged
   counts-up qs q i e h g =
       let c : Common = common-after tab qs in
-      let p = placed-after qs in
       let k = O-reaches tab c (q .r) (q .entries) i (rw h (good-counts c (q .r) e g)) in
-      omega (arith, rw h at k, ap (λ (c : Common). c .O) (one-more qs q), (applied-keeps tab c q (p .base) (p .offset)) .offset)
+      omega (arith, rw h at k, ap (λ (c : Common). c .O) (one-more qs q), (applied-keeps tab c q) .offset)
 
   is-good : (c : Common) (r : ℕ) (e : Report) → e .run ≤ 1 → e .progress + e .run ≤ L c → e .completed ≤ r → c .B ≤ e .progress → Bounded tab c r (e .progress + e .run)
       → Good tab c r e
