@@ -10,6 +10,8 @@ pub mod Closing
 pub mod Nodes
 pub mod Sizes
 pub mod History
+pub mod Canal
+pub mod Printed
 pub mod Ordered
 pub mod Rising
 pub mod Basis
@@ -20,8 +22,6 @@ pub mod Runs
 pub mod Demand
 pub mod Whole
 pub mod Agreement
-pub mod Canal
-pub mod Printed
 pub mod Vectors
 pub mod VectorsNode
 pub mod VectorsWritten
@@ -29,3 +29,5 @@ pub mod Reading
 pub mod Trip
 pub mod Back
 pub mod RoundTrips
+pub mod Alone
+pub mod Worked
