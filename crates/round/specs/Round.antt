@@ -1,6 +1,6 @@
 -- What a round record by value stands for, and the one value that stands for a record within the counts.
 use mathlib.Core.Option.{Option, none, some}
-use mathlib.Core.List.{List, map}
+use mathlib.Core.List.{List, [], map}
 use Prim.Native.Nat.{ℕ}
 use lib.ListN.{length, getD}
 use Rattle.laws.specs.Lists.{rows, pad}
@@ -56,3 +56,7 @@ round-as q = record {
   entered = length (q .entries);
   entries = pad 15 no-entry (map (λ e. record { entry = entry-as e }) (q .entries));
 }
+
+-- The record that says nothing.
+abbrev pub blank : Round
+blank = round-as (record { r = 0; releases = []; entries = [] })

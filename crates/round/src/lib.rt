@@ -1,4 +1,8 @@
 // A round record by value: r, the releases and the entries.
+ghost use mathlib.Core.Path.{_≡_};
+ghost use mathlib.Core.List.{[]};
+ghost use Rattle.laws.specs.Lists.{pad};
+ghost use Rattle.round.specs.Round.{no-release, no-entry, blank};
 
 // "releases (task, delay after r)"
 pub struct Release {
@@ -32,4 +36,38 @@ pub struct Round {
     pub releases: [Release; 64],
     pub entered: usize,
     pub entries: [Place; 15],
+}
+
+impl Round {
+    // The record that says nothing: what stands beside a refusal.
+    pub fn blank() -> Round
+        ensures { λ r. ⌜ r ≡ blank ⌝ }
+    {
+        let releases = no_releases();
+        let entries = no_entries();
+        Round {
+            time: 0,
+            listed: 0,
+            releases,
+            entered: 0,
+            entries,
+        }
+    }
+}
+
+// 64 places with no release, and 15 with no entry: functions of their own, so that no other proof meets the places written out.
+pub fn no_releases() -> [Release; 64]
+    ensures { λ r. ⌜ r ≡ pad 64 no-release [] ⌝ }
+{
+    let none = Release { task: 0, delay: 0 };
+    [none; 64]
+}
+
+pub fn no_entries() -> [Place; 15]
+    ensures { λ r. ⌜ r ≡ pad 15 no-entry [] ⌝ }
+{
+    let none = Place {
+        entry: Entry::Missing,
+    };
+    [none; 15]
 }
