@@ -8,13 +8,12 @@ use native.Mathlib.Omega.{arith}
 use lib.ListN.{length, take, getD, replicate, length-map, List·getD-map}
 use lib.Seq.{getD-take}
 use Rattle.laws.specs.Tests.{if_then_else_, found, maybe}
-use Rattle.laws.specs.Sums.{total}
 use Rattle.laws.specs.Lists.{pad}
 use Rattle.laws.proofs.Tests.{none≢some}
 use Rattle.laws.proofs.Lists.{take-pad, length-pad}
-use Rattle.laws.proofs.Sequences.{total-each}
 use Rattle.rules.specs.Common as rules
 use Rattle.rules.specs.Sound.{Sound}
+use Rattle.rules.proofs.Ranges.{L-below}
 use Rattle.table.specs.Table.{tableOf}
 use Rattle.table.specs.declared.Table.{Table}
 use Rattle.table.proofs.Facts.{tasks-count}
@@ -53,7 +52,7 @@ pub record Numbers (t : Table) (c : Common) : Type 0 where
   pub few : c .count ≤ 256
   pub base : c .base ≤ c .offset
   pub offset : c .offset ≤ c .base + c .count
-  pub length-below : c .base + c .count < 2 ^ 55
+  pub length-below : c .base + c .count ≤ 2 ^ 55
   pub start : c .start < 2 ^ 49
   pub earliest-places : length (c .earliest) ≡ 64
   pub earliest : (i : ℕ) → getD (c .earliest) i 0 < 2 ^ 49
@@ -80,18 +79,13 @@ module _ {t : Table} {c : Common} (g : Given t c) where
   pub job-there : (k : ℕ) → k < c .count → (getD ((commonOf c) .kept) k rules.no-job) .task-of ≡ getD (c .tasks) k 0
   job-there k h = ap task-of (List·getD-map job-of (take (c .count) (c .tasks)) k 0) ∙ getD-take (c .count) (c .tasks) k 0 h
 
-  length-small : c .base + c .count < 2 ^ 55
-  length-small =
-      let b : total (c .earliest) ≤ (2 ^ 49 - 1) * length (c .earliest) = total-each (c .earliest) (2 ^ 49 - 1) (λ i. omega (arith, g .sound .E-below i)) in
-      omega (arith, rw (g .sound .places) at b, g .sound .released, length-is)
-
   pub numbers : Numbers t c
   numbers = record {
     places = places;
     few = omega (arith, g .sound .few, kept-count);
     base = g .sound .base;
     offset = omega (arith, g .sound .offset, length-is);
-    length-below = length-small;
+    length-below = omega (arith, length-is, L-below (g .sound));
     start = g .sound .W-below;
     earliest-places = g .sound .places;
     earliest = g .sound .E-below;

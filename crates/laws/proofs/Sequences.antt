@@ -1,10 +1,12 @@
--- Laws of rows, of sums over rows, and of a search with two limits: what loops over arrays side by side rest on.
---     rows-same, rows-take                the first n of a sequence, and of a list
---     sum-next, sum-below, total-each     their sum, and that of a list of small numbers
+-- Laws of rows, of sums over rows, of a search with two limits and of conditions in a line: what code over arrays side by side rests on.
+--     rows-same, rows-take, rows-drop     the first n of a sequence, and of a list
+--     sum-next, sum-below                 their sum
 --     lowest-within                       a search with two limits
+--     any-left, all-left                  conditions in a line, as code joins them from the left
+--     all-append                          conditions in two parts
 use mathlib.Core.Path.{_≡_, refl, sym, _∙_, ap}
-use mathlib.Core.List.{List, [], _∷_, _++_, map}
-use mathlib.Core.Bool.{Bool, true, false, _&&_}
+use mathlib.Core.List.{List, [], _∷_, _++_, map, foldl}
+use mathlib.Core.Bool.{Bool, true, false, _&&_, _||_, and-true, and-assoc, or-false, or-assoc}
 use mathlib.Core.Option.{Option, none, some}
 use mathlib.Core.Logic.{_⊎_, inl, inr}
 use Prim.Native.Nat.{ℕ, zero, suc, _+_, _*_, _≤_, _<_, min}
@@ -12,12 +14,13 @@ use native.Mathlib.Nat.{mul-suc}
 use native.Mathlib.Omega.{arith}
 use native.Mathlib.Numerals.{add-one}
 use borrow.Author.Tests.{lt-ltb}
-use lib.ListN.{length, take, getD}
-use Rattle.laws.specs.Tests.{_<?_}
+use lib.ListN.{length, take, drop, getD}
+use Rattle.laws.specs.Tests.{_<?_, any-of, all-of}
 use Rattle.laws.specs.Sums.{total}
 use Rattle.laws.specs.Lists.{rows}
 use Rattle.laws.specs.Search.{lowest}
 use Rattle.laws.proofs.Tests.{lt-or-ge}
+use Rattle.laws.proofs.Lists.{length-rows, rows-at, drop-here}
 use Rattle.laws.proofs.Search.{lowest-below, lowest-same}
 
 module _ {A : Type 0} where
@@ -58,7 +61,21 @@ lowest-within f j n = by (lt-or-ge j n)
         let e : min j n ≡ n = omega arith in
         rw e (lowest-same (λ i. (i <? j) && f i) f n (λ i l. let k : i < j = omega arith in rw (lt-ltb i j k)))
 
-pub total-each : (l : List ℕ) (m : ℕ) → ((i : ℕ) → getD l i 0 ≤ m) → total l ≤ m * length l
-unfolding total
-total-each [] m h = omega arith
-total-each (x ∷ l) m h = omega (arith, h 0, total-each l m (λ i. h (suc i)), mul-suc m (length l))
+pub any-left : (b : Bool) (bs : List Bool) → foldl _||_ b bs ≡ any-of (b ∷ bs)
+unfolding any-of
+any-left b [] = sym (or-false b)
+any-left b (x ∷ bs) = any-left (b || x) bs ∙ or-assoc b x (any-of bs)
+
+pub all-left : (b : Bool) (bs : List Bool) → foldl _&&_ b bs ≡ all-of (b ∷ bs)
+unfolding all-of
+all-left b [] = sym (and-true b)
+all-left b (x ∷ bs) = all-left (b && x) bs ∙ and-assoc b x (all-of bs)
+
+pub all-append : (bs ds : List Bool) → all-of (bs ++ ds) ≡ (all-of bs && all-of ds)
+unfolding all-of
+all-append [] ds = refl
+all-append (b ∷ bs) ds = ap (λ x. b && x) (all-append bs ds) ∙ sym (and-assoc b (all-of bs) (all-of ds))
+
+-- a sequence from a place on
+pub rows-drop : {A : Type 0} (f : ℕ → A) (n k : ℕ) → k < n → drop k (rows f n) ≡ f k ∷ drop (k + 1) (rows f n)
+rows-drop f n k h = drop-here (rows f n) k (f 0) (rw (length-rows f n) h) (rows-at f n k (f 0) h)

@@ -1,2 +1,4 @@
 -- What is known of a table by value.
 pub mod Facts
+pub mod Rules
+pub mod Settled

@@ -1,0 +1,169 @@
+-- The loop of `check_table`: the numbers of 1 are in range, and no task below i breaks a rule.
+use mathlib.Core.Path.{_≡_, refl, sym, ap, _∙_}
+use mathlib.Core.Bool.{Bool, true, false, not}
+use mathlib.Core.Option.{none, some}
+use Prim.Native.Nat.{ℕ, _+_, _-_, _≤_, _<_}
+use native.Mathlib.Omega.{arith}
+use borrow.Author.Needs.{needs}
+use borrow.Author.Tests.{ltb-false}
+use Rattle.laws.specs.Search.{lowest}
+use Rattle.laws.proofs.Tests.{none-of}
+use Rattle.laws.proofs.Search.{lowest-none, lowest-more, lowest-found}
+use Rattle.rules.specs.Table.{out-of-range, check}
+use Rattle.table.specs.declared.Table.{Table}
+use Rattle.table.specs.declared.TableCheck.the-variants.{Passes, OutOfRange, Broken}
+use Rattle.table.specs.Table.{row, tableOf}
+use Rattle.table.specs.Check.{answerOf, keeps-at, largest-from}
+use Rattle.table.proofs.Rules.{breaks-rule, keeps-is, out-refused, rule-refused, all-kept}
+use Rattle.table.proofs.check_table.Statement.{statement}
+use Rattle.table.proofs.check_table.Tie as tie
+use Rattle.table.proofs.check_table.Reads as reads
+use Rattle.table.proofs.check_table.Lts as lts
+use Rattle.table.proofs.keeps_rules.Reads as keeps-rules-reads
+use Rattle.table.proofs.largest_from.Reads as largest-from-reads
+use Rattle.table.proofs.out_of_range.Reads as out-of-range-reads
+
+refused-out : (t : Table) {b : Bool} → b ≡ out-of-range (t .nodes) (t .timeout) (t .count) → b ≡ true → answerOf (tableOf t) OutOfRange ≡ check (tableOf t)
+refused-out t e h = out-refused t (sym e ∙ h)
+
+record Inv (t : Table) (i : ℕ) : Type 0 where
+  in-range : out-of-range (t .nodes) (t .timeout) (t .count) ≡ false
+  few : t .count ≤ 64
+  to : i ≤ t .count
+  so-far : lowest (breaks-rule t) i ≡ none
+
+inv-start : (t : Table) {b : Bool} → b ≡ out-of-range (t .nodes) (t .timeout) (t .count) → b ≡ false → Inv t 0
+unfolding out-of-range
+inv-start t e h = record { in-range = sym e ∙ h; few = ltb-false _ _ (none-of _ (sym e ∙ h) 3); to = omega arith; so-far = lowest-none _ }
+
+module _ {t : Table} {i : ℕ} (v : Inv t i) where
+  inv-end : t .count ≤ i → answerOf (tableOf t) Passes ≡ check (tableOf t)
+  inv-end h =
+      let e : i ≡ t .count = omega (arith, v .to) in
+      all-kept t (v .in-range) (rw e at (v .so-far))
+
+  module _ (h : i < t .count) {lower : ℕ} (e : lower ≡ largest-from (t .longest) (i + 1) (t .count)) {b : Bool} (q : b ≡ keeps-at (t .timeout) lower (row t i)) where
+    kept : breaks-rule t i ≡ not b
+    unfolding breaks-rule
+    kept = ap not (keeps-is t i h ∙ ap (λ n. keeps-at (t .timeout) n (row t i)) (sym e) ∙ sym q)
+
+    inv-broken : not b ≡ true → answerOf (tableOf t) (Broken i) ≡ check (tableOf t)
+    inv-broken k = rule-refused t (v .in-range) i (lowest-found (breaks-rule t) i (v .so-far) (kept ∙ k) (t .count) h)
+
+    inv-next : not b ≡ false → Inv t (i + 1)
+    inv-next k =
+        record { in-range = v .in-range; few = v .few; to = omega arith; so-far = lowest-more (breaks-rule t) i (v .so-far) (kept ∙ k) }
+
+abbrev Inv-loop : tie.InvT-loop
+Inv-loop t i₀ i = Inv t i
+
+abbrev μ-loop : tie.MeasureT-loop
+μ-loop t i₀ i = t .count - i
+
+-- src/lib.rt:86:8
+out-of-range-requires : tie.Need-out-of-range-requires Inv-loop μ-loop
+out-of-range-requires c κs = search needs
+
+-- src/lib.rt:87:9
+returns : tie.Need-returns Inv-loop μ-loop
+returns c = search refused-out
+
+-- src/lib.rt:90:5
+loop-holds : tie.Need-loop-holds Inv-loop μ-loop
+loop-holds c = search inv-start
+
+-- src/lib.rt:91:46
+add-largest-from : tie.Need-add-largest-from Inv-loop μ-loop
+add-largest-from c = search needs
+
+-- src/lib.rt:91:13
+largest-from-requires : tie.Need-largest-from-requires Inv-loop μ-loop
+largest-from-requires c κs = search needs
+
+-- src/lib.rt:92:25
+mul-keeps-rules : tie.Need-mul-keeps-rules Inv-loop μ-loop
+mul-keeps-rules c = search needs
+
+-- src/lib.rt:92:25
+element-copy-out-keeps-rules : tie.Need-element-copy-out-keeps-rules Inv-loop μ-loop
+element-copy-out-keeps-rules c = search needs
+
+-- src/lib.rt:92:39
+mul-keeps-rules-2 : tie.Need-mul-keeps-rules-2 Inv-loop μ-loop
+mul-keeps-rules-2 c = search needs
+
+-- src/lib.rt:92:39
+element-copy-out-keeps-rules-2 : tie.Need-element-copy-out-keeps-rules-2 Inv-loop μ-loop
+element-copy-out-keeps-rules-2 c = search needs
+
+-- src/lib.rt:92:54
+mul-keeps-rules-3 : tie.Need-mul-keeps-rules-3 Inv-loop μ-loop
+mul-keeps-rules-3 c = search needs
+
+-- src/lib.rt:92:54
+element-copy-out-keeps-rules-3 : tie.Need-element-copy-out-keeps-rules-3 Inv-loop μ-loop
+element-copy-out-keeps-rules-3 c = search needs
+
+-- src/lib.rt:92:69
+mul-keeps-rules-4 : tie.Need-mul-keeps-rules-4 Inv-loop μ-loop
+mul-keeps-rules-4 c = search needs
+
+-- src/lib.rt:92:69
+element-copy-out-keeps-rules-4 : tie.Need-element-copy-out-keeps-rules-4 Inv-loop μ-loop
+element-copy-out-keeps-rules-4 c = search needs
+
+-- src/lib.rt:92:13
+keeps-rules-requires : tie.Need-keeps-rules-requires Inv-loop μ-loop
+keeps-rules-requires c κs = search needs
+
+-- src/lib.rt:93:13
+returns-2 : tie.Need-returns-2 Inv-loop μ-loop
+returns-2 c =
+    let l = c .before .before .before .before .before .before in
+    let b = l .before .before .before in
+    inv-broken (b .before .loop .inv) (b .loop-test .taken) (l .largest-from .ensures) (c .before .keeps-rules .ensures) (c .if2 .taken)
+
+-- src/lib.rt:95:9
+add-i : tie.Need-add-i Inv-loop μ-loop
+add-i c = search needs
+
+-- src/lib.rt:90:5
+loop-less : tie.Need-loop-less Inv-loop μ-loop
+loop-less c = search needs
+
+-- src/lib.rt:90:5
+loop-again : tie.Need-loop-again Inv-loop μ-loop
+loop-again c =
+    let l = c .before .before .before .before .before .before in
+    let b = l .before .before .before in
+    inv-next (b .before .loop .inv) (b .loop-test .taken) (l .largest-from .ensures) (c .before .keeps-rules .ensures) (c .if2 .left)
+
+-- src/lib.rt:83:1
+returns-3 : tie.Need-returns-3 Inv-loop μ-loop
+returns-3 c = search inv-end
+
+pub check-table-spec : {M : Type 1} → statement M
+check-table-spec =
+    tie.close
+    (tie.spec
+    Inv-loop
+    μ-loop
+    out-of-range-requires
+    returns
+    loop-holds
+    add-largest-from
+    largest-from-requires
+    mul-keeps-rules
+    element-copy-out-keeps-rules
+    mul-keeps-rules-2
+    element-copy-out-keeps-rules-2
+    mul-keeps-rules-3
+    element-copy-out-keeps-rules-3
+    mul-keeps-rules-4
+    element-copy-out-keeps-rules-4
+    keeps-rules-requires
+    returns-2
+    add-i
+    loop-less
+    loop-again
+    returns-3)
