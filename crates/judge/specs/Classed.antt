@@ -6,7 +6,7 @@ use Rattle.laws.specs.Tests.{_=?_, if_then_else_}
 use Rattle.rules.specs.Table.{Table}
 use Rattle.rules.specs.Common.{Common}
 use Rattle.rules.specs.Judge.{Report, numbers, class, counts, start-of}
-use Rattle.judge.specs.declared.Classed.{Classed}
+use Rattle.judge.specs.declared.passes.Classed.{Classed}
 
 -- Progress + run is read only of classes 0 and 5: of another class it may be past the machine's width.
 abbrev pub classed-as : Table → Common → ℕ → Option Report → Classed

@@ -1,10 +1,10 @@
--- `judge::set_with` meets its contract. Assumes nothing.
+-- `passes::set_with` meets its contract. Assumes nothing.
 use native.Mathlib.Omega.{arith}
 use borrow.Author.Needs.{needs}
-use Rattle.judge.proofs.set_with.Statement.{statement}
-use Rattle.judge.proofs.set_with.Tie as tie
-use Rattle.judge.proofs.set_with.Reads as reads
-use Rattle.judge.proofs.set_with.Lts as lts
+use Rattle.judge.proofs.passes.set_with.Statement.{statement}
+use Rattle.judge.proofs.passes.set_with.Tie as tie
+use Rattle.judge.proofs.passes.set_with.Reads as reads
+use Rattle.judge.proofs.passes.set_with.Lts as lts
 
 mul-result : tie.Need-mul-result
 mul-result c = search needs

@@ -1,9 +1,9 @@
--- `judge::reaches` meets its contract. Assumes nothing.
+-- `passes::reaches` meets its contract. Assumes nothing.
 use borrow.Author.Tests.{eq-eqb, ne-eqb}
-use Rattle.judge.proofs.reaches.Statement.{statement}
-use Rattle.judge.proofs.reaches.Tie as tie
-use Rattle.judge.proofs.reaches.Reads as reads
-use Rattle.judge.proofs.reaches.Lts as lts
+use Rattle.judge.proofs.passes.reaches.Statement.{statement}
+use Rattle.judge.proofs.passes.reaches.Tie as tie
+use Rattle.judge.proofs.passes.reaches.Reads as reads
+use Rattle.judge.proofs.passes.reaches.Lts as lts
 
 returns : tie.Need-returns
 returns c = simp (eq-eqb _ _ (c .before .if2 .taken), eq-eqb _ _ (c .before .before .before .if1 .taken))

@@ -1,11 +1,11 @@
--- `judge::nearer` meets its contract. Assumes nothing.
+-- `passes::nearer` meets its contract. Assumes nothing.
 use borrow.Author.Tests.{eq-eqb, ne-eqb}
 use borrow.Author.Needs.{needs}
-use Rattle.judge.proofs.nearer.Statement.{statement}
-use Rattle.judge.proofs.nearer.Tie as tie
-use Rattle.judge.proofs.nearer.Reads as reads
-use Rattle.judge.proofs.nearer.Lts as lts
-use Rattle.judge.proofs.smaller.Reads as smaller-reads
+use Rattle.judge.proofs.passes.nearer.Statement.{statement}
+use Rattle.judge.proofs.passes.nearer.Tie as tie
+use Rattle.judge.proofs.passes.nearer.Reads as reads
+use Rattle.judge.proofs.passes.nearer.Lts as lts
+use Rattle.judge.proofs.passes.smaller.Reads as smaller-reads
 
 -- src/lib.rt:74:9
 smaller-requires : tie.Need-smaller-requires

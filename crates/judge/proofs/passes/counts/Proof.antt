@@ -1,9 +1,9 @@
--- `judge::counts` meets its contract. Assumes nothing.
+-- `passes::counts` meets its contract. Assumes nothing.
 use borrow.Author.Tests.{eq-eqb, ne-eqb}
-use Rattle.judge.proofs.counts.Statement.{statement}
-use Rattle.judge.proofs.counts.Tie as tie
-use Rattle.judge.proofs.counts.Reads as reads
-use Rattle.judge.proofs.counts.Lts as lts
+use Rattle.judge.proofs.passes.counts.Statement.{statement}
+use Rattle.judge.proofs.passes.counts.Tie as tie
+use Rattle.judge.proofs.passes.counts.Reads as reads
+use Rattle.judge.proofs.passes.counts.Lts as lts
 
 -- src/lib.rt:50:9
 returns : tie.Need-returns

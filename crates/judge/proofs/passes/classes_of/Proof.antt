@@ -1,4 +1,4 @@
--- `judge::classes_of` meets its contract. The invariant: the classes below `i` are written. Assumes nothing.
+-- `passes::classes_of` meets its contract. The invariant: the classes below `i` are written. Assumes nothing.
 use native.Mathlib.Omega.{arith}
 use borrow.Author.Needs.{needs}
 use Rattle.laws.proofs.Lists.{length-of-map}
@@ -7,10 +7,10 @@ use mathlib.Core.Path.{refl}
 use Rattle.laws.specs.Lists.{pad}
 use Rattle.laws.proofs.Folds.{Filled, fill-start, fill-next, fill-end}
 use Rattle.judge.specs.Classed.{class-in, no-class}
-use Rattle.judge.proofs.classes_of.Statement.{statement}
-use Rattle.judge.proofs.classes_of.Tie as tie
-use Rattle.judge.proofs.classes_of.Reads as reads
-use Rattle.judge.proofs.classes_of.Lts as lts
+use Rattle.judge.proofs.passes.classes_of.Statement.{statement}
+use Rattle.judge.proofs.passes.classes_of.Tie as tie
+use Rattle.judge.proofs.passes.classes_of.Reads as reads
+use Rattle.judge.proofs.passes.classes_of.Lts as lts
 
 abbrev Inv-loop : tie.InvT-loop
 Inv-loop n all classes₀ i₀ classes i = Filled class-in 15 0 all n i classes

@@ -1,21 +1,21 @@
--- `judge::back_set` meets its contract. The invariant: the set has the nodes from `i` on. Assumes nothing.
+-- `passes::front_set` meets its contract. The invariant: the set has the nodes from `i` on. Assumes nothing.
 use native.Mathlib.Omega.{arith}
 use borrow.Author.Needs.{needs}
 use Rattle.laws.proofs.Lists.{length-of-map}
 use Rattle.laws.proofs.Folds.{Gathered, gather-start, gather-small, gather-next, gather-end}
-use Rattle.judge.specs.Classed.{is-back, no-class}
-use Rattle.judge.proofs.back_set.Statement.{statement}
-use Rattle.judge.proofs.back_set.Tie as tie
-use Rattle.judge.proofs.back_set.Reads as reads
-use Rattle.judge.proofs.back_set.Lts as lts
-use Rattle.judge.proofs.reaches.Reads as reaches-reads
-use Rattle.judge.proofs.set_with.Reads as set-with-reads
+use Rattle.judge.specs.Classed.{class-in, in-front, no-class}
+use Rattle.judge.proofs.passes.front_set.Statement.{statement}
+use Rattle.judge.proofs.passes.front_set.Tie as tie
+use Rattle.judge.proofs.passes.front_set.Reads as reads
+use Rattle.judge.proofs.passes.front_set.Lts as lts
+use Rattle.judge.proofs.passes.counts.Reads as counts-reads
+use Rattle.judge.proofs.passes.set_with.Reads as set-with-reads
 
 abbrev Inv-loop : tie.InvT-loop
-Inv-loop n least latest all set₀ i₀ set i = Gathered (is-back least latest) all n i set
+Inv-loop n all set₀ i₀ set i = Gathered (λ x. in-front (class-in x)) all n i set
 
 abbrev μ-loop : tie.MeasureT-loop
-μ-loop n least latest all set₀ i₀ set i = i
+μ-loop n all set₀ i₀ set i = i
 
 loop-holds : tie.Need-loop-holds Inv-loop μ-loop
 loop-holds c = gather-start _ (search length-of-map) (omega arith)
@@ -29,8 +29,8 @@ mul-x c = search needs
 array-copy-out-x : tie.Need-array-copy-out-x Inv-loop μ-loop
 array-copy-out-x c = search needs
 
-reaches-requires : tie.Need-reaches-requires Inv-loop μ-loop
-reaches-requires c κs = search needs
+counts-requires : tie.Need-counts-requires Inv-loop μ-loop
+counts-requires c κs = search needs
 
 set-with-requires : tie.Need-set-with-requires Inv-loop μ-loop
 set-with-requires c κs = search gather-small
@@ -44,8 +44,8 @@ loop-again c = search gather-next
 returns : tie.Need-returns Inv-loop μ-loop
 returns c = search gather-end
 
-pub back-set-spec : {M : Type 1} → statement M
-back-set-spec =
+pub front-set-spec : {M : Type 1} → statement M
+front-set-spec =
     tie.close
     (tie.spec
     Inv-loop
@@ -54,7 +54,7 @@ back-set-spec =
     sub-i
     mul-x
     array-copy-out-x
-    reaches-requires
+    counts-requires
     set-with-requires
     loop-less
     loop-again

@@ -1,11 +1,11 @@
--- `judge::later` meets its contract. Assumes nothing.
+-- `passes::later` meets its contract. Assumes nothing.
 use borrow.Author.Tests.{eq-eqb, ne-eqb}
 use borrow.Author.Needs.{needs}
-use Rattle.judge.proofs.later.Statement.{statement}
-use Rattle.judge.proofs.later.Tie as tie
-use Rattle.judge.proofs.later.Reads as reads
-use Rattle.judge.proofs.later.Lts as lts
-use Rattle.judge.proofs.larger.Reads as larger-reads
+use Rattle.judge.proofs.passes.later.Statement.{statement}
+use Rattle.judge.proofs.passes.later.Tie as tie
+use Rattle.judge.proofs.passes.later.Reads as reads
+use Rattle.judge.proofs.passes.later.Lts as lts
+use Rattle.judge.proofs.passes.larger.Reads as larger-reads
 
 larger-requires : tie.Need-larger-requires
 larger-requires c κs = search needs

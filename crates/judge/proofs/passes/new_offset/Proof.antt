@@ -1,14 +1,14 @@
--- `judge::new_offset` meets its contract. The invariant: the fold over the entries below `i` is left. Assumes nothing.
+-- `passes::new_offset` meets its contract. The invariant: the fold over the entries below `i` is left. Assumes nothing.
 use native.Mathlib.Omega.{arith}
 use borrow.Author.Needs.{needs}
 use Rattle.laws.proofs.Folds.{Folded, fold-start, fold-next, fold-end}
 use Rattle.laws.proofs.Lists.{length-of-map}
 use Rattle.judge.specs.Classed.{front-step, no-class}
-use Rattle.judge.proofs.new_offset.Statement.{statement}
-use Rattle.judge.proofs.new_offset.Tie as tie
-use Rattle.judge.proofs.new_offset.Reads as reads
-use Rattle.judge.proofs.new_offset.Lts as lts
-use Rattle.judge.proofs.larger.Reads as larger-reads
+use Rattle.judge.proofs.passes.new_offset.Statement.{statement}
+use Rattle.judge.proofs.passes.new_offset.Tie as tie
+use Rattle.judge.proofs.passes.new_offset.Reads as reads
+use Rattle.judge.proofs.passes.new_offset.Lts as lts
+use Rattle.judge.proofs.passes.larger.Reads as larger-reads
 
 abbrev Inv-loop : tie.InvT-loop
 Inv-loop n offset all front₀ i₀ front i = Folded front-step all n offset i front
