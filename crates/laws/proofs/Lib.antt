@@ -6,3 +6,4 @@ pub mod Lists
 pub mod Sequences
 pub mod Folds
 pub mod Digits
+pub mod Insertion
