@@ -1,5 +1,6 @@
 -- Laws of the checks of a list of releases.
---     release-here, releases-end                 the list of a record, from a place on
+--     releases-count, entries-count              the lists of a record
+--     release-here, releases-end                 the releases from a place on
 --     task-unknown, delay-long, delay-falls, release-fits     15 of one release
 --     listed-none, listed-bad, listed-more       15 of a list, release by release
 --     listable                                   what 3 and 15 leave of each release: no sum wraps
@@ -9,21 +10,21 @@ use mathlib.Core.Bool.{Bool, true, false, _||_}
 use mathlib.Core.List.{List, [], _∷_, foldl}
 use Prim.Native.Nat.{ℕ, zero, suc, _+_, _^_, _≤_, _<_}
 use native.Mathlib.Omega.{arith}
-use borrow.Author.Tests.{lt-ltb, le-ltb, le-leb, lt-leb, ltb-true, ltb-false, leb-false}
+use borrow.Author.Tests.{lt-ltb, le-ltb, le-leb, lt-leb, ltb-false, leb-false, eqb-true, not-false}
 use lib.ListN.{length, getD, set, drop, drop-of-length-le}
 use Rattle.laws.specs.Tests.{_<?_, _≤?_, if_then_else_, any-of}
 use Rattle.laws.specs.Lists.{rows}
 use Rattle.laws.proofs.Tests.{none-of}
 use Rattle.laws.proofs.Lists.{drop-here, length-rows, rows-at}
 use Rattle.table.specs.declared.Table as code
-use Rattle.table.specs.Table.{tableOf, row, Checked}
+use Rattle.table.specs.Table.{tableOf}
+use Rattle.table.proofs.Facts.{Ranges, ranges, tasks-count, task-row}
 use Rattle.round.specs.declared.Round.{Round}
-use Rattle.round.specs.Round.{releaseOf, releasesOf, no-release}
+use Rattle.round.specs.Round.{releaseOf, releasesOf, no-release, entryOf, entriesOf, no-entry}
 use Rattle.rules.specs.Table.{Task, Table, task}
 use Rattle.rules.specs.Judge.{Release}
 use Rattle.rules.specs.Insert.{next-E}
 use Rattle.rules.specs.Close.{ill-listed, ill-formed, too-early}
-use Rattle.rules.proofs.Tables.{Fit, Keeps, Small, fit}
 use Rattle.close.specs.declared.listing.Listed.{Listed}
 use Rattle.close.specs.declared.listing.Listed.the-variants.{Fits, Refused}
 use Rattle.close.specs.declared.spacing.Admit.{Admit}
@@ -31,17 +32,23 @@ use Rattle.close.specs.declared.spacing.Admit.the-variants as admit
 use Rattle.close.specs.Listing.{listing, Listable}
 use Rattle.close.specs.Spacing.{admission}
 
--- the list that a record stands for, from a place on
+-- the lists that a record stands for
+pub releases-count : (q : Round) → length (releasesOf q) ≡ q .listed
+releases-count q = length-rows (λ i. releaseOf (getD (q .releases) i no-release)) (q .listed)
+
+pub entries-count : (q : Round) → length (entriesOf q) ≡ q .entered
+entries-count q = length-rows (λ i. entryOf ((getD (q .entries) i no-entry) .entry)) (q .entered)
+
+-- the releases from a place on
 module _ (q : Round) (i : ℕ) where
   pub release-here : i < q .listed → drop i (releasesOf q) ≡ releaseOf (getD (q .releases) i no-release) ∷ drop (i + 1) (releasesOf q)
   release-here h =
       let at : ℕ → Release = λ k. releaseOf (getD (q .releases) k no-release) in
-      drop-here (rows at (q .listed)) i (releaseOf no-release) (omega (arith, length-rows at (q .listed))) (rows-at at (q .listed) i (releaseOf no-release) h)
+      drop-here (rows at (q .listed)) i (releaseOf no-release) (omega (arith, releases-count q)) (rows-at at (q .listed) i (releaseOf no-release) h)
 
   pub releases-end : q .listed ≤ i → drop i (releasesOf q) ≡ []
   releases-end h =
-      let at : ℕ → Release = λ k. releaseOf (getD (q .releases) k no-release) in
-      drop-of-length-le (rows at (q .listed)) {i = i} (omega (arith, length-rows at (q .listed)))
+      drop-of-length-le (releasesOf q) {i = i} (omega (arith, releases-count q))
 
 -- the check of one release
 module _ (count timeout least : ℕ) (x : Release) where
@@ -114,37 +121,31 @@ pub record Soon (t : code.Table) (x : Release) : Type 0 where
   pub distance : (task (tableOf t) (x .task-of)) .T ≡ getD (t .distance) (x .task-of) 0
 
 module _ {t : code.Table} {q : Round} (v : Listable t q) where
-  fits : Fit (tableOf t)
-  fits = fit (v .checked .passes)
-
-  count-is : length (rows (row t) (t .count)) ≡ t .count
-  count-is = length-rows (row t) (t .count)
-
   pub few-listed : q .listed ≤ 64
   unfolding ill-formed
   few-listed =
-      let k = none-of _ (v .formed) in
-      let h : length (releasesOf q) ≤ 64 = ltb-false _ _ (k 0) in
-      omega (arith, length-rows (λ i. releaseOf (getD (q .releases) i no-release)) (q .listed))
+      let h : length (releasesOf q) ≤ 64 = ltb-false _ _ (none-of _ (v .formed) 0) in
+      omega (arith, releases-count q)
+
+  pub all-entered : q .entered ≡ t .nodes
+  unfolding ill-formed
+  all-entered = sym (entries-count q) ∙ eqb-true _ _ (not-false _ (none-of _ (v .formed) 1))
 
   pub listable : (i : ℕ) → i < q .listed → Soon t (releaseOf (getD (q .releases) i no-release))
   unfolding ill-formed
   listable i l =
-      let k = none-of _ (v .formed) in
       let at : ℕ → Release = λ j. releaseOf (getD (q .releases) j no-release) in
-      let e = each-listed (tableOf t) 0 (rows at (q .listed)) (releaseOf no-release) (k 3) i (omega (arith, length-rows at (q .listed))) in
+      let e = each-listed (tableOf t) 0 (rows at (q .listed)) (releaseOf no-release) (none-of _ (v .formed) 3) i (omega (arith, releases-count q)) in
       let here : getD (rows at (q .listed)) i (releaseOf no-release) ≡ at i = rows-at at (q .listed) i (releaseOf no-release) l in
-      let a : (at i) .task-of < length (rows (row t) (t .count)) = rw here at (e .0) in
+      let a : (at i) .task-of < length ((tableOf t) .tasks) = rw here at (e .0) in
       let b : (at i) .delay < t .timeout = rw here at (e .1) in
-      let known : (at i) .task-of < t .count = omega (arith, count-is) in
-      let first = fits .each 0 (fits .tasks .0) in
-      let is : task (tableOf t) ((at i) .task-of) ≡ row t ((at i) .task-of) = rows-at (row t) (t .count) ((at i) .task-of) _ known in
-      let T-is : (task (tableOf t) ((at i) .task-of)) .T ≡ getD (t .distance) ((at i) .task-of) 0 = ap (λ (k : Task). k .T) is in
+      let known : (at i) .task-of < t .count = omega (arith, tasks-count t) in
+      let n = ranges (v .checked) in
       record {
-        known = omega (arith, fits .tasks .1, count-is);
-        delayed = omega (arith, first .timely, first .small .C-small);
-        apart = omega (arith, T-is, fits .each ((at i) .task-of) a .small .T-small);
-        distance = T-is;
+        known = omega (arith, n .few);
+        delayed = omega (arith, n .timeout);
+        apart = omega (arith, n .distance ((at i) .task-of) known);
+        distance = ap (λ (k : Task). k .T) (task-row t ((at i) .task-of) known);
       }
 
 -- the check of one release against E

@@ -1,3 +1,4 @@
 pub mod Listing
 pub mod Spacing
 pub mod Insertion
+pub mod Trial

@@ -2,3 +2,4 @@
 mod insertion;
 mod listing;
 mod spacing;
+mod trial;

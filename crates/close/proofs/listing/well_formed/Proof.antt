@@ -1,53 +1,44 @@
 -- `listing::well_formed` meets its contract: one lemma for each condition of 15, in the order of the code.
-use mathlib.Core.Path.{_≡_, refl, sym, ap, _∙_}
-use mathlib.Core.Bool.{Bool, true, false, not, _||_}
-use mathlib.Core.List.{List}
+use mathlib.Core.Path.{_≡_, refl, sym, _∙_}
+use mathlib.Core.Bool.{Bool, true, false, _||_}
 use Prim.Native.Nat.{ℕ, _≤_, _<_}
 use borrow.Author.Needs.{needs}
 use borrow.Author.Tests.{lt-ltb, le-ltb, eq-eqb, ne-eqb}
-use lib.ListN.{length, getD}
-use Rattle.laws.specs.Tests.{_<?_, _=?_, any-of}
-use Rattle.laws.specs.Lists.{rows}
-use Rattle.laws.proofs.Lists.{length-rows}
+use Rattle.laws.specs.Tests.{_=?_, any-of}
 use Rattle.table.specs.declared.Table.{Table}
 use Rattle.table.specs.Table.{tableOf}
 use Rattle.round.specs.declared.Round.{Round}
-use Rattle.round.specs.Round.{releaseOf, releasesOf, entriesOf, entryOf, roundOf, no-release, no-entry}
+use Rattle.round.specs.Round.{releasesOf, roundOf}
 use Rattle.rules.specs.Close.{ill-listed, ill-formed, first-delay}
 use Rattle.close.specs.declared.listing.Standing.{Standing}
 use Rattle.close.specs.declared.listing.Standing.the-variants.{Refused}
 use Rattle.close.specs.Listing.{standing}
+use Rattle.close.proofs.Releases.{releases-count, entries-count}
 use Rattle.close.proofs.listing.well_formed.Statement.{statement}
 use Rattle.close.proofs.listing.well_formed.Tie as tie
 
 module _ (t : Table) (q : Round) where
-  listed : length (releasesOf q) ≡ q .listed
-  listed = length-rows (λ i. releaseOf (getD (q .releases) i no-release)) (q .listed)
-
-  entered : length (entriesOf q) ≡ q .entered
-  entered = length-rows (λ i. entryOf ((getD (q .entries) i no-entry) .entry)) (q .entered)
-
   too-long : 64 < q .listed → Refused 15 ≡ standing 15 (ill-formed (tableOf t) (roundOf q))
   unfolding ill-formed any-of
-  too-long h = rw (listed, lt-ltb 64 (q .listed) h)
+  too-long h = rw (releases-count q, lt-ltb 64 (q .listed) h)
 
   module _ (few : q .listed ≤ 64) where
     other-count : (q .entered ≡ t .nodes → ⊥) → Refused 15 ≡ standing 15 (ill-formed (tableOf t) (roundOf q))
     unfolding ill-formed any-of
-    other-count h = rw (listed, le-ltb 64 (q .listed) few, entered, ne-eqb (q .entered) (t .nodes) h)
+    other-count h = rw (releases-count q, le-ltb 64 (q .listed) few, entries-count q, ne-eqb (q .entered) (t .nodes) h)
 
     module _ (all : q .entered ≡ t .nodes) {first : ℕ} (p : first ≡ first-delay (releasesOf q)) where
       first-late : (first ≡ 0 → ⊥) → Refused 15 ≡ standing 15 (ill-formed (tableOf t) (roundOf q))
       unfolding ill-formed any-of
       first-late h =
           let late : (first-delay (releasesOf q) =? 0) ≡ false = ne-eqb (first-delay (releasesOf q)) 0 (λ e. h (p ∙ e)) in
-          rw (listed, le-ltb 64 (q .listed) few, entered, eq-eqb (q .entered) (t .nodes) all, late)
+          rw (releases-count q, le-ltb 64 (q .listed) few, entries-count q, eq-eqb (q .entered) (t .nodes) all, late)
 
       list-decides : first ≡ 0 → {s : Standing} → s ≡ standing 15 (ill-listed (tableOf t) 0 (releasesOf q)) → s ≡ standing 15 (ill-formed (tableOf t) (roundOf q))
       unfolding ill-formed any-of
       list-decides h g =
           let soon : (first-delay (releasesOf q) =? 0) ≡ true = eq-eqb (first-delay (releasesOf q)) 0 (sym p ∙ h) in
-          rw (listed, le-ltb 64 (q .listed) few, entered, eq-eqb (q .entered) (t .nodes) all, soon)
+          rw (releases-count q, le-ltb 64 (q .listed) few, entries-count q, eq-eqb (q .entered) (t .nodes) all, soon)
           (g ∙ by (ill-listed (tableOf t) 0 (releasesOf q)))
         where
           by : (b : Bool) → standing 15 b ≡ standing 15 (b || false)
