@@ -27,6 +27,15 @@ first-fits false false true l h = absurd (false≢true h)
 first-fits false false false l h = (refl, refl, refl)
 
 module _ (tab : Table) (c : Common) (r : ℕ) where
+  -- and where none of 2, 3, 4 fits, it is 0 or 5
+  counts-else : (e : Report) → malformed tab c r e ≡ false → behind tab c r e ≡ false → over-bound tab c r e ≡ false → counts tab c r (some e) ≡ true
+  unfolding class
+  counts-else e m b o = rw (m, b, o) (by (late tab c r e))
+    where
+      by : (l : Bool) → let k : ℕ = if l then 5 else 0 in ((k =? 0) || (k =? 5)) ≡ true
+      by true = refl
+      by false = refl
+
   -- a report that is neither malformed, nor behind, nor over the bound
   pub record Stands (e : Report) : Type 0 where
     pub run : e .run ≤ 1
@@ -35,6 +44,7 @@ module _ (tab : Table) (c : Common) (r : ℕ) where
     pub base : c .B ≤ e .progress
     pub bound : over-bound tab c r e ≡ false
 
+  -- every report of class 0 or 5 is such a one
   pub stands : (x : Option Report) → counts tab c r x ≡ true → Stands (numbers x)
   unfolding class malformed
   stands none h = absurd (false≢true h)
@@ -49,16 +59,13 @@ module _ (tab : Table) (c : Common) (r : ℕ) where
         bound = k .2;
       }
 
-  -- and only such a report is of class 0 or 5
+  -- and every such report is of class 0 or 5
   pub counted : (e : Report) → Stands e → counts tab c r (some e) ≡ true
-  unfolding class malformed any-of
-  counted e s =
-      rw (le-ltb 1 (e .run) (s .run), le-ltb (L c) (e .progress + e .run) (s .inside), le-ltb r (e .completed) (s .completed), le-ltb (e .progress) (c .B) (s .base), s .bound)
-      (by (late tab c r e))
+  unfolding malformed any-of
+  counted e s = counts-else e well-formed (le-ltb (e .progress) (c .B) (s .base)) (s .bound)
     where
-      by : (l : Bool) → let k : ℕ = if l then 5 else 0 in ((k =? 0) || (k =? 5)) ≡ true
-      by true = refl
-      by false = refl
+      well-formed : malformed tab c r e ≡ false
+      well-formed = rw (le-ltb 1 (e .run) (s .run), le-ltb (L c) (e .progress + e .run) (s .inside), le-ltb r (e .completed) (s .completed))
 
   pub zero-or-five : (x : Option Report) → counts tab c r x ≡ true → (class tab c r x ≡ 0) ⊎ (class tab c r x ≡ 5)
   zero-or-five x h = by (class tab c r x =? 0) refl h

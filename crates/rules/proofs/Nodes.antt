@@ -216,7 +216,7 @@ module _ {tab : Table} {n : Node} (s : SoundNode tab n) where
 
   pub report-run : (r : ℕ) → (report-of tab n r) .run ≤ 1
   unfolding report-of
-  report-run r = if-cases (λ k. k ≤ 1) (n .running || next-soon tab n r) 1 0 (λ e. omega arith) (λ e. omega arith)
+  report-run r = if-cases (λ k. k ≤ 1) (n .running || next-soon tab n r) _ _ (λ e. omega arith) (λ e. omega arith)
 
   report-open : {r : ℕ} → r < 2 ^ 48 → SoundOpen (n .common) (record { r = r; sent = report-of tab n r })
   unfolding report-of

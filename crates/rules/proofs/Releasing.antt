@@ -120,26 +120,28 @@ unfolding insert
 insert-known tab i t n jobs = insert-each (λ (j : Job). j .task-of < length (tab .tasks)) no-job jobs (place tab i t n jobs) (record { task-of = i })
 
 module _ {tab : Table} (f : Fit tab) {r : ℕ} (l : r < 2 ^ 48) where
-  -- "E(task) becomes release time + T": past E(task), and below 2^49
-  pub E-next : {E : List ℕ} {x : Release} → Admitted tab r E x → (getD E (x .task-of) 0 < r + x .delay + (task tab (x .task-of)) .T) × (r + x .delay + (task tab (x .task-of)) .T < 2 ^ 49)
-  E-next {E} {x} a =
-      let k = f .each (x .task-of) (a .known) in
-      (omega (arith, a .due, k .some-C, k .C-D, k .D-T), omega (arith, a .soon, timeout-small f, k .small .T-small))
+  -- "E(task) becomes release time + T": their sum rises by 1 at least, and they stay below 2^49
+  module _ {E : List ℕ} {x : Release} (a : Admitted tab r E x) where
+    pub E-sum : length E ≡ 64 → total E + 1 ≤ total (next-E tab r E x)
+    E-sum e =
+        let k = f .each (x .task-of) (a .known) in
+        total-set E (x .task-of) _ (omega (arith, a .known, f .tasks .1)) (omega (arith, a .due, k .some-C, k .C-D, k .D-T))
+
+    pub E-bounded : ((i : ℕ) → getD E i 0 < 2 ^ 49) → (i : ℕ) → getD (next-E tab r E x) i 0 < 2 ^ 49
+    E-bounded = set-each (λ (n : ℕ). n < 2 ^ 49) 0 E (x .task-of) _ (omega (arith, a .soon, timeout-small f, limits f (x .task-of) .T-small))
 
   pub release-sound : {c : Common} {x : Release} → Sound tab c → Admitted tab r (c .E) x → length (c .kept) < 256 → Sound tab (release tab r c x)
   unfolding release
   release-sound {c} {x} s a room =
       let n = insert-long tab (x .task-of) (r + x .delay) (c .O - c .B) (c .kept) in
-      let e = E-next a in
-      let t : x .task-of < length (c .E) = omega (arith, a .known, f .tasks .1, s .places) in
       record {
         base = s .base;
         offset = omega (arith, s .offset);
         few = omega arith;
         known = insert-known tab (x .task-of) (r + x .delay) (c .O - c .B) (c .kept) (a .known) (s .known);
         places = length-set (c .E) (x .task-of) _ ∙ s .places;
-        released = omega (arith, s .released, total-set (c .E) (x .task-of) _ t (e .0));
-        E-below = set-each (λ (n : ℕ). n < 2 ^ 49) 0 (c .E) (x .task-of) _ (e .1) (s .E-below);
+        released = omega (arith, s .released, E-sum a (s .places));
+        E-below = E-bounded a (s .E-below);
         W-below = s .W-below;
         last-below = s .last-below;
       }
