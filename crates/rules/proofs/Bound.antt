@@ -1,15 +1,13 @@
 -- The bound at later times, and class 4 position by position.
 use mathlib.Core.Path.{_≡_, refl, sym, _∙_}
-use mathlib.Core.Bool.{Bool, true, false, not, _&&_, true≢false}
-use Prim.Native.Nat.{ℕ, _+_, _-_, _≤_, _<_, max}
+use mathlib.Core.Bool.{Bool, true, false, true≢false}
+use Prim.Native.Nat.{ℕ, _+_, _-_, _≤_, _<_}
 use native.Mathlib.Omega.{arith}
-use lib.ListN.{length, getD}
 use borrow.Author.Tests.{ltb-true, lt-ltb, not-true}
 use Rattle.laws.specs.Tests.{_<?_, found}
-use Rattle.laws.specs.Search.{lowest}
 use Rattle.laws.proofs.Tests.{and-yes}
 use Rattle.laws.proofs.Search.{none-found, find-none}
-use Rattle.rules.specs.Table.{Task, Table, task}
+use Rattle.rules.specs.Table.{Table, task}
 use Rattle.rules.specs.Common.{Job, Common, job-at, higher, earliest, projection, breaks, breaker, within-bound}
 use Rattle.rules.specs.Judge.{Report, over-bound}
 

@@ -1,20 +1,19 @@
 -- What an accepted record keeps.
-use mathlib.Core.Path.{_≡_, refl, sym, _∙_, ap}
-use mathlib.Core.Bool.{Bool, true, false}
-use mathlib.Core.Option.{Option, none, some}
-use mathlib.Core.List.{List}
+use mathlib.Core.Path.{_≡_, refl, sym}
+use mathlib.Core.Bool.{true, false}
+use mathlib.Core.Option.{none, some}
 use Prim.Native.Nat.{ℕ, zero, suc, _+_, _-_, _^_, _≤_, _<_}
 use native.Mathlib.Omega.{arith}
-use lib.ListN.{length, take, drop, getD, replicate, length-drop, getD-replicate}
+use lib.ListN.{length, take, drop, getD, replicate, length-drop}
 use lib.Seq.{getD-drop}
 use borrow.Author.Tests.{ltb-false, leb-false}
 use Rattle.laws.specs.Sums.{total}
 use Rattle.laws.proofs.Tests.{none-of, none≢some}
-use Rattle.rules.specs.Answer.{Answer, done}
+use Rattle.rules.specs.Answer.{done}
 use Rattle.rules.specs.Table.{Table}
-use Rattle.rules.specs.Common.{Job, Common, no-job, fresh, L}
-use Rattle.rules.specs.Judge.{Report, Round, numbers, counts, new-O, new-B, new-W}
-use Rattle.rules.specs.Close.{Closed, Verdict, close, too-late, too-soon, ill-formed, ill-listed, too-early, too-many, judged, applied, verdict}
+use Rattle.rules.specs.Common.{Common, no-job, fresh, L}
+use Rattle.rules.specs.Judge.{Round, numbers, counts, new-O, new-B, new-W}
+use Rattle.rules.specs.Close.{Closed, close, too-late, too-soon, ill-formed, too-early, too-many, judged, applied, verdict}
 use Rattle.rules.specs.Sound.{Sound}
 use Rattle.rules.proofs.Answers.{passed, same-done}
 use Rattle.rules.proofs.Tables.{Fit, timeout-small}

@@ -3,16 +3,16 @@ use mathlib.Core.Path.{_≡_, refl, sym, ap, _∙_}
 use mathlib.Core.List.{List}
 use Prim.Native.Nat.{ℕ, _+_, _-_, _≤_, _<_}
 use native.Mathlib.Omega.{arith}
-use lib.ListN.{length, take, drop, getD}
+use lib.ListN.{drop, getD}
 use lib.Seq.{getD-take, getD-drop}
-use Rattle.rules.specs.Answer.{Answer, done}
+use Rattle.rules.specs.Answer.{done}
 use Rattle.rules.specs.Table.{Table}
 use Rattle.rules.specs.Common.{Job, Common, no-job, fresh, L, job-at}
 use Rattle.rules.specs.Judge.{Round}
 use Rattle.rules.specs.Close.{Closed, close}
 use Rattle.rules.specs.Sound.{Sound}
 use Rattle.rules.proofs.Tables.{Fit}
-use Rattle.rules.proofs.Closing.{Onward, Kept, close-keeps, fresh-sound}
+use Rattle.rules.proofs.Closing.{Onward, close-keeps, fresh-sound}
 
 -- a position past the new base and up to the new offset keeps its job
 pub job-stays : {c d : Common} → Onward c d → (p : ℕ) → d .B < p → p ≤ d .O → job-at d p ≡ job-at c p

@@ -1,17 +1,17 @@
 -- What judging a round keeps: B ≤ new B ≤ new O ≤ L, O ≤ new O, W ≤ new W, and what a report of class 0 or 5 is.
-use mathlib.Core.Path.{_≡_, refl, sym, _∙_}
-use mathlib.Core.Bool.{Bool, true, false, _&&_, _||_, false≢true}
+use mathlib.Core.Path.{_≡_, refl}
+use mathlib.Core.Bool.{Bool, true, false, _||_, false≢true}
 use mathlib.Core.Logic.{_⊎_, inl, inr}
 use mathlib.Core.Option.{Option, none, some}
 use mathlib.Core.List.{List, [], _∷_, foldr}
-use Prim.Native.Nat.{ℕ, zero, suc, _+_, _-_, _≤_, _<_, max, min}
+use Prim.Native.Nat.{ℕ, zero, suc, _+_, _≤_, max}
 use native.Mathlib.Omega.{arith}
 use lib.ListN.{length, getD}
 use borrow.Author.Tests.{ltb-false, le-ltb, eqb-true}
 use Rattle.laws.specs.Tests.{_=?_, if_then_else_, any-of, found}
 use Rattle.laws.specs.Search.{lowest}
 use Rattle.laws.proofs.Tests.{if-cases, none-of, and-yes}
-use Rattle.laws.proofs.Search.{Least, Says, lowest-says}
+use Rattle.laws.proofs.Search.{Says, lowest-says}
 use Rattle.laws.proofs.Lists.{foldr-keeps}
 use Rattle.rules.specs.Table.{Table}
 use Rattle.rules.specs.Common.{Common, L}

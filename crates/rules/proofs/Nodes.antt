@@ -2,23 +2,22 @@
 use mathlib.Core.Path.{_≡_, refl, sym, subst}
 use mathlib.Core.Bool.{Bool, true, false, not, _&&_, _||_, false≢true, true≢false}
 use mathlib.Core.Option.{Option, none, some}
-use mathlib.Core.List.{List}
-use Prim.Native.Nat.{ℕ, _+_, _^_, _≤_, _<_, max}
+use Prim.Native.Nat.{ℕ, _+_, _^_, _≤_, _<_}
 use native.Mathlib.Omega.{arith}
 use lib.ListN.{getD}
-use borrow.Author.Tests.{ltb-false, leb-true, leb-false, lt-ltb, eqb-true, eqb-false, not-true, not-false}
+use borrow.Author.Tests.{ltb-false, leb-true, leb-false, lt-ltb, eqb-true, eqb-false, not-false}
 use Rattle.laws.specs.Tests.{_<?_, _≤?_, _=?_, if_then_else_, found, maybe}
 use Rattle.laws.proofs.Tests.{if-cases, and-yes, not-found, none≢some, some-same}
 use Rattle.rules.specs.Answer.{Answer, done, refuse_if_else_}
 use Rattle.rules.specs.Table.{Table}
-use Rattle.rules.specs.Common.{Job, Common, L, job-at, breaker, within-bound}
+use Rattle.rules.specs.Common.{L, job-at, breaker, within-bound}
 use Rattle.rules.specs.Judge.{Report, Round}
 use Rattle.rules.specs.Close.{too-late, Closed, close}
 use Rattle.rules.specs.Node.{Open, Node, new-node, fresh-node, left-behind, lock, beyond-lock, broken-now, Started, start, finish, next-soon, report-of, Reported, report, other-round, as-sent, not-as-sent, NodeClosed, node-closed, node-close}
-use Rattle.rules.specs.Sound.{Sound, SoundOpen, SoundNode}
+use Rattle.rules.specs.Sound.{SoundOpen, SoundNode}
 use Rattle.rules.proofs.Answers.{passed, passed-naming, passed-on, same-done}
 use Rattle.rules.proofs.Tables.{Fit, timeout-small}
-use Rattle.rules.proofs.Closing.{Accepted, accepted, Onward, Kept, close-keeps, fresh-sound}
+use Rattle.rules.proofs.Closing.{accepted, close-keeps, fresh-sound}
 
 -- 3, 4 and 5, which start, finish and report have in common
 pub record OnTime (n : Node) (now : ℕ) : Type 0 where

@@ -1,15 +1,14 @@
 -- The projection, position by position, and how large it can be.
-use mathlib.Core.Path.{_≡_, refl, sym}
-use mathlib.Core.List.{List, map}
+use mathlib.Core.Path.{_≡_}
 use Prim.Native.Nat.{ℕ, _+_, _-_, _*_, _^_, _≤_, _<_}
 use native.Mathlib.Omega.{arith}
 use lib.ListN.{length, take, getD, length-take}
 use Rattle.laws.specs.Sums.{total}
 use Rattle.laws.proofs.Sums.{total-next, total-mono, total-below}
-use Rattle.rules.specs.Table.{Task, Table, task}
+use Rattle.rules.specs.Table.{Table, task}
 use Rattle.rules.specs.Common.{Job, Common, no-job, L, job-at, projection}
 use Rattle.rules.specs.Sound.{Sound}
-use Rattle.rules.proofs.Tables.{Small, Fit, limits}
+use Rattle.rules.proofs.Tables.{Fit, limits}
 
 module _ (tab : Table) (c : Common) where
   abbrev cost : Job → ℕ

@@ -1,27 +1,25 @@
 -- What releases keep: B, O, W and the order up to O stay, L grows by one each, E does not fall and its sum grows by one at least each.
-use mathlib.Core.Path.{_≡_, refl, sym, _∙_, ap}
-use mathlib.Core.Bool.{Bool, true, false, not, _||_}
-use mathlib.Core.Option.{Option, some}
-use mathlib.Core.List.{List, [], _∷_, _++_, foldl}
-use Prim.Native.Nat.{ℕ, zero, suc, _+_, _-_, _^_, _≤_, _<_}
+use mathlib.Core.Path.{_≡_, refl, _∙_}
+use mathlib.Core.Bool.{false, not}
+use mathlib.Core.List.{List, [], _∷_, foldl}
+use Prim.Native.Nat.{ℕ, suc, _+_, _-_, _^_, _≤_, _<_}
 use native.Mathlib.Omega.{arith}
-use lib.ListN.{length, take, drop, set, getD, length-append, length-take, length-drop, length-set}
+use lib.ListN.{length, take, drop, getD, length-append, length-take, length-drop, length-set}
 use lib.Seq.{take-append-le, take-take}
 use borrow.Author.Tests.{ltb-false, leb-false}
 use Rattle.laws.specs.Tests.{_<?_}
-use Rattle.laws.specs.Search.{up-to-last}
 use Rattle.laws.specs.Sums.{total}
 use Rattle.laws.proofs.Tests.{or-no, none-of}
 use Rattle.laws.proofs.Search.{up-to-last-le}
 use Rattle.laws.proofs.Sums.{set-rises, total-set}
 use Rattle.laws.proofs.Lists.{insert-each, set-each}
-use Rattle.rules.specs.Table.{Task, Table, task}
-use Rattle.rules.specs.Common.{Job, Common, no-job, L, higher}
+use Rattle.rules.specs.Table.{Table, task}
+use Rattle.rules.specs.Common.{Job, Common, no-job, higher}
 use Rattle.rules.specs.Judge.{Release}
 use Rattle.rules.specs.Insert.{place, insert, next-E, release, release-all}
 use Rattle.rules.specs.Close.{ill-listed, too-early}
 use Rattle.rules.specs.Sound.{Sound}
-use Rattle.rules.proofs.Tables.{Small, Keeps, Fit, limits, timeout-small}
+use Rattle.rules.proofs.Tables.{Fit, limits, timeout-small}
 
 -- one job put in past the first n
 module _ (tab : Table) (i t n : ℕ) (jobs : List Job) where

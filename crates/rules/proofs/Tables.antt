@@ -1,7 +1,7 @@
 -- What a checked table keeps: the counts, and for each task its rules as inequalities.
-use mathlib.Core.Path.{_≡_, refl, sym}
+use mathlib.Core.Path.{_≡_}
 use mathlib.Core.Logic.{_⊎_, inl, inr}
-use mathlib.Core.Bool.{Bool, true, false, not}
+use mathlib.Core.Bool.{Bool, true, not}
 use mathlib.Core.List.{List, [], _∷_, foldr}
 use Prim.Native.Nat.{ℕ, zero, suc, _+_, _-_, _≤_, _<_, max}
 use native.Mathlib.Omega.{arith}
@@ -11,7 +11,7 @@ use borrow.Author.Tests.{ltb-false, leb-true, not-false}
 use Rattle.laws.specs.Search.{lowest}
 use Rattle.laws.proofs.Tests.{lt-or-ge, none-of, each-of}
 use Rattle.laws.proofs.Search.{none-found}
-use Rattle.rules.specs.Answer.{Answer, done}
+use Rattle.rules.specs.Answer.{done}
 use Rattle.rules.specs.Table.{Task, Table, task, largest-lower-C, keeps-rules, out-of-range, check}
 use Rattle.rules.proofs.Answers.{passed, passed-naming}
 
