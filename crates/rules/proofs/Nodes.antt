@@ -179,6 +179,10 @@ fresh-node-sound tab i h =
     let a = passed 1 (tab .m ≤? i) h in
     rw (sym (same-done (a .1))) (new-node-sound tab i (leb-false _ _ (a .0)))
 
+pub report-run : (tab : Table) (n : Node) (r : ℕ) → (report-of tab n r) .run ≤ 1
+unfolding report-of
+report-run tab n r = if-cases (λ k. k ≤ 1) (n .running || next-soon tab n r) _ _ (λ e. omega arith) (λ e. omega arith)
+
 module _ {tab : Table} {n : Node} (s : SoundNode tab n) where
   -- a node that may start has a job to start
   pub start-more : {now : ℕ} → MayStart tab n now → n .progress + 1 ≤ L (n .common)
@@ -213,13 +217,9 @@ module _ {tab : Table} {n : Node} (s : SoundNode tab n) where
         round = s .round;
       })
 
-  pub report-run : (r : ℕ) → (report-of tab n r) .run ≤ 1
-  unfolding report-of
-  report-run r = if-cases (λ k. k ≤ 1) (n .running || next-soon tab n r) _ _ (λ e. omega arith) (λ e. omega arith)
-
   report-open : {r : ℕ} → r < 2 ^ 48 → SoundOpen (n .common) (record { r = r; sent = report-of tab n r })
   unfolding report-of
-  report-open {r} h = record { time = h; progress = omega (arith, s .progress); completed = s .completed; run = report-run r }
+  report-open {r} h = record { time = h; progress = omega (arith, s .progress); completed = s .completed; run = report-run tab n r }
 
   pub report-keeps : (r : ℕ) {x : Reported} → report tab n r ≡ done x → SoundNode tab (x .node)
   report-keeps r h =
