@@ -1,30 +1,57 @@
 -- Each call keeps the invariant of its node: one lemma a call, and a refused one changes nothing.
 use mathlib.Core.Path.{_≡_, refl, sym, ap, _∙_, subst}
-use mathlib.Core.Bool.{Bool, true, false, _||_}
+use mathlib.Core.Bool.{Bool, true, false, _&&_, _||_}
 use mathlib.Core.Logic.{_⊎_, inl, inr, ⊎-elim}
 use mathlib.Core.Option.{Option, none, some}
 use mathlib.Core.List.{List, [], _∷_, _++_, append-assoc, List·Memᴰ, List·Memᴰ·append-cases, List·Memᴰ·eq-of-singleton}
 use Prim.Native.Nat.{ℕ, _+_, _≤_, _<_, max}
 use native.Mathlib.Omega.{arith}
 use lib.ListN.{length, getD, length-append}
-use Rattle.laws.specs.Tests.{if_then_else_}
+use borrow.Author.Tests.{leb-true, lt-leb}
+use Rattle.laws.specs.Tests.{_<?_, _≤?_, if_then_else_}
 use Rattle.laws.specs.Lists.{Prefix}
-use Rattle.laws.proofs.Tests.{lt-or-ge, none≢some}
+use Rattle.laws.proofs.Tests.{lt-or-ge, and-yes, none≢some}
 use Rattle.laws.proofs.Lists.{prefix-snoc, prefix-length}
 use Rattle.rules.specs.Answer.{Answer, done, refused, refused-by}
 use Rattle.rules.specs.Table.{Table}
-use Rattle.rules.specs.Common.{Job, Common, L, job-at}
+use Rattle.rules.specs.Common.{Job, Common, L, job-at, projection, within-bound}
 use Rattle.rules.specs.Judge.{Report, Round}
 use Rattle.rules.specs.Close.{Closed, applied}
 use Rattle.rules.specs.Node.{Open, Node, lock, Started, start, finish, next-soon, report-of, Reported, report, NodeClosed, node-close}
 use Rattle.rules.specs.Cabinet.{Call, start-at, finish-at, report-at, close-with, Watched, saw-start, saw-finish, saw-report, saw-close, on-reply, asked}
 use Rattle.rules.specs.Agreement.{common-after, order-after, Good}
-use Rattle.rules.proofs.Nodes.{OnTime, MayStart, started, MayFinish, finished, MayReport, reported, MayClose, ClosedBy, node-closes}
-use Rattle.rules.proofs.Permits.{in-lock, in-bound, Next, next-is}
+use Rattle.rules.proofs.Nodes.{OnTime, MayStart, started, Permitted, by-offset, by-lock, by-bound, permitted, MayFinish, finished, MayReport, reported, MayClose, ClosedBy, node-closes}
 use Rattle.rules.proofs.Ordered.{carried}
 use Rattle.rules.proofs.Basis.{Bounded, offset-after, OrderBasis, Basis}
 use Rattle.rules.proofs.Rising.{rising-snoc}
 use Rattle.rules.proofs.Invariant.{Answered, Inv}
+
+-- the next position counts in a report where nothing runs: it exists, and is up to O or within the bound
+record Next (tab : Table) (n : Node) (r : ℕ) : Type 0 where
+  there : n .progress + 1 ≤ L (n .common)
+  may : (n .common) .O < n .progress + 1 → within-bound tab (n .common) (n .progress + 1) r ≡ true
+
+next-is : (tab : Table) (n : Node) (r : ℕ) → next-soon tab n r ≡ true → Next tab n r
+unfolding next-soon
+next-is tab n r h =
+    let exists : Bool = n .progress + 1 ≤? L (n .common) in
+    let may : Bool = (n .progress + 1 ≤? (n .common) .O) || within-bound tab (n .common) (n .progress + 1) r in
+    let a = and-yes exists may ((and-yes (exists && may) (projection tab (n .common) (n .progress) <? r + tab .timeout) h) .0) in
+    record { there = leb-true _ _ (a .0); may = λ l. rw (lt-leb (n .progress + 1) ((n .common) .O) l) at (a .1) }
+
+-- what permits a start, past O with no round open, and while one is open
+bound-permits : {tab : Table} {n : Node} {now : ℕ} → Permitted tab n now → n .round ≡ none → (n .common) .O < n .progress + 1
+    → within-bound tab (n .common) (n .progress + 1) now ≡ true
+bound-permits (by-offset l) o h = absurd (omega arith)
+bound-permits (by-lock w e l) o h = none≢some (sym o ∙ e)
+bound-permits (by-bound e b) o h = b
+
+lock-permits : {tab : Table} {n : Node} {now : ℕ} → Permitted tab n now → (w : Open) → n .round ≡ some w → n .progress + 1 ≤ max ((n .common) .O) (lock w)
+lock-permits (by-offset l) w o = omega arith
+lock-permits (by-lock u e l) w o =
+    let k : u ≡ w = cc in
+    omega (arith, ap lock k)
+lock-permits (by-bound e b) w o = none≢some (sym e ∙ o)
 
 -- one position more
 one-on : (p k : ℕ) → p ≤ k + 1 → (p ≤ k) ⊎ (p ≡ k + 1)
@@ -69,9 +96,9 @@ module _ {tab : Table} (K : Basis tab) {x : Watched} (v : Inv tab x) where
             ⊎-elim (λ (i : p ≤ length (x .started)). still (t .clock) l o p b i)
             (λ (i : p ≡ length (x .started) + 1).
             let e : p ≡ n .progress + 1 = omega arith in
-            rw e (in-bound tab n now o (m .bounded) (omega arith)))
+            rw e (bound-permits (permitted m) o (omega arith)))
             (one-on p (length (x .started)) (omega arith));
-        locked = λ l w o. (v .locked l w o .0, omega (arith, v .locked l w o .1, in-lock n w o (m .locked)));
+        locked = λ l w o. (v .locked l w o .0, omega (arith, v .locked l w o .1, lock-permits (permitted m) w o));
         answered = v .answered;
         old = λ q i. omega (arith, v .old q i);
         older = v .older;

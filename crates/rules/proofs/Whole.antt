@@ -19,9 +19,9 @@ use Rattle.rules.specs.Close.{Closed, judged, applied}
 use Rattle.rules.specs.Agreement.{Whole, apply-whole, whole-after, common-after, order-after, Good}
 use Rattle.rules.proofs.Tables.{Fit}
 use Rattle.rules.proofs.Bound.{bound-stays, each-bound}
-use Rattle.rules.proofs.Judging.{Stands, counted, zero-or-five, O-reaches}
+use Rattle.rules.proofs.Judging.{Stands, counted, zero-or-five}
 use Rattle.rules.proofs.Releasing.{Released}
-use Rattle.rules.proofs.Closing.{close-gives, Onward, judged-between, applied-keeps, applied-between, applied-onward}
+use Rattle.rules.proofs.Closing.{close-gives, Onward, applied-keeps, applied-reaches, judged-between, applied-between, applied-onward}
 use Rattle.rules.proofs.Ordered.{Ordered}
 use Rattle.rules.proofs.Basis.{offset-after, Bounded, OrderBasis, Basis}
 
@@ -128,11 +128,10 @@ module _ (tab : Table) where
 
   counts-up : (qs : List Round) (q : Round) (i : ℕ) (e : Report) → getD (q .entries) i none ≡ some e → Good tab (common-after tab qs) (q .r) e
       → e .progress + e .run ≤ offset-after tab (qs ++ (q ∷ []))
-  unfolding judged
   counts-up qs q i e h g =
       let c : Common = common-after tab qs in
-      let k = O-reaches tab c (q .r) (q .entries) i (rw h (good-counts c (q .r) e g)) in
-      omega (arith, rw h at k, ap (λ (c : Common). c .O) (one-more qs q), (applied-keeps tab c q) .offset)
+      let k = applied-reaches tab c q i (rw h (good-counts c (q .r) e g)) in
+      omega (arith, rw h at k, ap (λ (c : Common). c .O) (one-more qs q))
 
   is-good : (c : Common) (r : ℕ) (e : Report) → e .run ≤ 1 → e .progress + e .run ≤ L c → e .completed ≤ r → c .B ≤ e .progress → Bounded tab c r (e .progress + e .run)
       → Good tab c r e
