@@ -31,3 +31,4 @@ pub mod Back
 pub mod RoundTrips
 pub mod Alone
 pub mod Worked
+pub mod Decisive
