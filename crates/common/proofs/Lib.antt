@@ -2,3 +2,5 @@
 pub mod Arrays
 pub mod Records
 pub mod Raw
+pub mod Positions
+pub mod Settled

@@ -1,2 +1,3 @@
 pub mod Common
 pub mod Raw
+pub mod Positions

@@ -2,9 +2,12 @@
 ghost use mathlib.Core.Path.{_≡_};
 ghost use Prim.Native.Nat.{_+_, _^_, _≤_, _<_, min};
 ghost use lib.ListN.{getD};
-ghost use Rattle.rules.specs.Common.{fresh};
-ghost use Rattle.common.specs.Common.{common-as};
+ghost use Rattle.rules.specs.Common.{fresh, earliest, projection, breaker};
+ghost use Rattle.table.specs.Table.{tableOf};
+ghost use Rattle.common.specs.Common.{commonOf, common-as};
+ghost use Rattle.common.specs.Positions.{Projectable, Occupied};
 ghost use Rattle.common.specs.Raw.{earliest-of, projected-at, breaker-at, breachOf, Summable, Boundable};
+use table::Table;
 
 // "It holds the jobs still kept, in order": their tasks in the first `count` places. Places not used hold 0, and so does `last` where none has begun,
 // so that equal records are equal bit for bit.
@@ -120,4 +123,32 @@ pub fn breach_at<'a>(
         i += 1;
     }
     Breach::Met
+}
+
+// "Earliest release at t", of a record by value.
+pub fn earliest_of(c: Common, i: usize, time: u64) -> u64
+    requires { ⌜ i < 64 ⌝ }
+    ensures { λ r. ⌜ r ≡ earliest (commonOf c) i time ⌝ }
+{
+    earliest_at(&c.earliest, i, time)
+}
+
+// "Projection of position p ≥ B: W plus the C of every job from B + 1 to p. Of B it is W."
+pub fn projection_of(t: Table, c: Common, p: u64) -> u64
+    requires { ⌜ Projectable t c p ⌝ }
+    ensures { λ r. ⌜ r ≡ projection (tableOf t) (commonOf c) p ⌝ }
+{
+    let n = (p - c.base) as usize;
+    projected(&t.longest, &c.tasks, c.start, n)
+}
+
+// "Bound for position p at time t": 9 names "the lowest-numbered task that breaks it".
+pub fn bound_of(t: Table, c: Common, p: u64, time: u64) -> Breach
+    requires { ⌜ Occupied t c p time ⌝ }
+    ensures { λ r. ⌜ r ≡ breachOf (breaker (tableOf t) (commonOf c) p time) ⌝ }
+{
+    let n = (p - c.base) as usize;
+    let end = projected(&t.longest, &c.tasks, c.start, n);
+    let task = task_at(&c.tasks, n - 1);
+    breach_at(&c.earliest, &t.slack, t.count, task, end, time)
 }

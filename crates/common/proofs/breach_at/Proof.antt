@@ -13,10 +13,6 @@ use Rattle.common.specs.Raw.{earliest-of, breaker-at, breachOf, Boundabl
 use Rattle.common.proofs.Arrays.{late-for, late-yes, late-no, breaker-within}
 use Rattle.common.proofs.breach_at.Statement.{statement}
 use Rattle.common.proofs.breach_at.Tie as tie
-use Rattle.common.proofs.breach_at.Reads as reads
-use Rattle.common.proofs.breach_at.Lts as lts
-use Rattle.common.proofs.earliest_at.Reads as earliest-at-reads
-use Rattle.common.proofs.smaller.Reads as smaller-reads
 
 record Inv (earliest slack : List ℕ) (count task end t higher i : ℕ) : Type 0 where
   ready : Boundable earliest slack count t
@@ -64,47 +60,36 @@ Inv-loop earliest slack count task end t higher i₀ i = Inv earliest slack coun
 abbrev μ-loop : tie.MeasureT-loop
 μ-loop earliest slack count task end t higher i₀ i = higher - i
 
--- src/lib.rt:113:9
 smaller-requires : tie.Need-smaller-requires Inv-loop μ-loop
 smaller-requires c κs = search needs
 
--- src/lib.rt:115:5
 loop-holds : tie.Need-loop-holds Inv-loop μ-loop
 loop-holds c = search inv-start
 
--- src/lib.rt:116:13
 earliest-at-requires : tie.Need-earliest-at-requires Inv-loop μ-loop
 earliest-at-requires c κs = search (needs, inv-known)
 
--- src/lib.rt:117:16
 mul-if1 : tie.Need-mul-if1 Inv-loop μ-loop
 mul-if1 c = search (needs, inv-known)
 
--- src/lib.rt:117:16
 element-copy-out-if1 : tie.Need-element-copy-out-if1 Inv-loop μ-loop
 element-copy-out-if1 c = search (needs, inv-known)
 
--- src/lib.rt:117:12
 add-if1 : tie.Need-add-if1 Inv-loop μ-loop
 add-if1 c = search inv-sum
 
--- src/lib.rt:118:13
 returns : tie.Need-returns Inv-loop μ-loop
 returns c = search inv-found
 
--- src/lib.rt:120:9
 add-i : tie.Need-add-i Inv-loop μ-loop
 add-i c = search needs
 
--- src/lib.rt:115:5
 loop-less : tie.Need-loop-less Inv-loop μ-loop
 loop-less c = search needs
 
--- src/lib.rt:115:5
 loop-again : tie.Need-loop-again Inv-loop μ-loop
 loop-again c = search inv-next
 
--- src/lib.rt:102:1
 returns-2 : tie.Need-returns-2 Inv-loop μ-loop
 returns-2 c = search inv-end
 

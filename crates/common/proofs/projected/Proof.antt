@@ -9,9 +9,6 @@ use Rattle.common.specs.Raw.{projected-at, Summable}
 use Rattle.common.proofs.Arrays.{projected-none, projected-next}
 use Rattle.common.proofs.projected.Statement.{statement}
 use Rattle.common.proofs.projected.Tie as tie
-use Rattle.common.proofs.projected.Reads as reads
-use Rattle.common.proofs.projected.Lts as lts
-use Rattle.common.proofs.task_at.Reads as task-at-reads
 
 record Inv (longest tasks : List ℕ) (start n end k : ℕ) : Type 0 where
   ready : Summable longest tasks start n
@@ -53,39 +50,30 @@ Inv-loop longest tasks start n end₀ k₀ end k = Inv longest tasks start n end
 abbrev μ-loop : tie.MeasureT-loop
 μ-loop longest tasks start n end₀ k₀ end k = n - k
 
--- src/lib.rt:84:5
 loop-holds : tie.Need-loop-holds Inv-loop μ-loop
 loop-holds c = inv-start (c .pre)
 
--- src/lib.rt:85:13
 task-at-requires : tie.Need-task-at-requires Inv-loop μ-loop
 task-at-requires c κs = search needs
 
--- src/lib.rt:86:21
 mul-end : tie.Need-mul-end Inv-loop μ-loop
 mul-end c = search (needs, inv-known)
 
--- src/lib.rt:86:21
 element-copy-out-end : tie.Need-element-copy-out-end Inv-loop μ-loop
 element-copy-out-end c = search (needs, inv-known)
 
--- src/lib.rt:86:15
 add-end : tie.Need-add-end Inv-loop μ-loop
 add-end c = search inv-sum
 
--- src/lib.rt:87:9
 add-k : tie.Need-add-k Inv-loop μ-loop
 add-k c = search needs
 
--- src/lib.rt:84:5
 loop-less : tie.Need-loop-less Inv-loop μ-loop
 loop-less c = search needs
 
--- src/lib.rt:84:5
 loop-again : tie.Need-loop-again Inv-loop μ-loop
 loop-again c = search inv-next
 
--- src/lib.rt:78:1
 returns : tie.Need-returns Inv-loop μ-loop
 returns c = search inv-end
 

@@ -17,11 +17,6 @@ use Rattle.table.specs.Check.{answerOf, keeps-at, largest-from}
 use Rattle.table.proofs.Rules.{breaks-rule, keeps-is, out-refused, rule-refused, all-kept}
 use Rattle.table.proofs.check_table.Statement.{statement}
 use Rattle.table.proofs.check_table.Tie as tie
-use Rattle.table.proofs.check_table.Reads as reads
-use Rattle.table.proofs.check_table.Lts as lts
-use Rattle.table.proofs.keeps_rules.Reads as keeps-rules-reads
-use Rattle.table.proofs.largest_from.Reads as largest-from-reads
-use Rattle.table.proofs.out_of_range.Reads as out-of-range-reads
 
 refused-out : (t : Table) {b : Bool} → b ≡ out-of-range (t .nodes) (t .timeout) (t .count) → b ≡ true → answerOf (tableOf t) OutOfRange ≡ check (tableOf t)
 refused-out t e h = out-refused t (sym e ∙ h)
@@ -60,85 +55,66 @@ Inv-loop t i₀ i = Inv t i
 abbrev μ-loop : tie.MeasureT-loop
 μ-loop t i₀ i = t .count - i
 
--- src/lib.rt:86:8
 out-of-range-requires : tie.Need-out-of-range-requires Inv-loop μ-loop
 out-of-range-requires c κs = search needs
 
--- src/lib.rt:87:9
 returns : tie.Need-returns Inv-loop μ-loop
 returns c = search refused-out
 
--- src/lib.rt:90:5
 loop-holds : tie.Need-loop-holds Inv-loop μ-loop
 loop-holds c = search inv-start
 
--- src/lib.rt:91:46
 add-largest-from : tie.Need-add-largest-from Inv-loop μ-loop
 add-largest-from c = search needs
 
--- src/lib.rt:91:13
 largest-from-requires : tie.Need-largest-from-requires Inv-loop μ-loop
 largest-from-requires c κs = search needs
 
--- src/lib.rt:92:25
 mul-keeps-rules : tie.Need-mul-keeps-rules Inv-loop μ-loop
 mul-keeps-rules c = search needs
 
--- src/lib.rt:92:25
 element-copy-out-keeps-rules : tie.Need-element-copy-out-keeps-rules Inv-loop μ-loop
 element-copy-out-keeps-rules c = search needs
 
--- src/lib.rt:92:39
 mul-keeps-rules-2 : tie.Need-mul-keeps-rules-2 Inv-loop μ-loop
 mul-keeps-rules-2 c = search needs
 
--- src/lib.rt:92:39
 element-copy-out-keeps-rules-2 : tie.Need-element-copy-out-keeps-rules-2 Inv-loop μ-loop
 element-copy-out-keeps-rules-2 c = search needs
 
--- src/lib.rt:92:54
 mul-keeps-rules-3 : tie.Need-mul-keeps-rules-3 Inv-loop μ-loop
 mul-keeps-rules-3 c = search needs
 
--- src/lib.rt:92:54
 element-copy-out-keeps-rules-3 : tie.Need-element-copy-out-keeps-rules-3 Inv-loop μ-loop
 element-copy-out-keeps-rules-3 c = search needs
 
--- src/lib.rt:92:69
 mul-keeps-rules-4 : tie.Need-mul-keeps-rules-4 Inv-loop μ-loop
 mul-keeps-rules-4 c = search needs
 
--- src/lib.rt:92:69
 element-copy-out-keeps-rules-4 : tie.Need-element-copy-out-keeps-rules-4 Inv-loop μ-loop
 element-copy-out-keeps-rules-4 c = search needs
 
--- src/lib.rt:92:13
 keeps-rules-requires : tie.Need-keeps-rules-requires Inv-loop μ-loop
 keeps-rules-requires c κs = search needs
 
--- src/lib.rt:93:13
 returns-2 : tie.Need-returns-2 Inv-loop μ-loop
 returns-2 c =
     let l = c .before .before .before .before .before .before in
     let b = l .before .before .before in
     inv-broken (b .before .loop .inv) (b .loop-test .taken) (l .largest-from .ensures) (c .before .keeps-rules .ensures) (c .if2 .taken)
 
--- src/lib.rt:95:9
 add-i : tie.Need-add-i Inv-loop μ-loop
 add-i c = search needs
 
--- src/lib.rt:90:5
 loop-less : tie.Need-loop-less Inv-loop μ-loop
 loop-less c = search needs
 
--- src/lib.rt:90:5
 loop-again : tie.Need-loop-again Inv-loop μ-loop
 loop-again c =
     let l = c .before .before .before .before .before .before in
     let b = l .before .before .before in
     inv-next (b .before .loop .inv) (b .loop-test .taken) (l .largest-from .ensures) (c .before .keeps-rules .ensures) (c .if2 .left)
 
--- src/lib.rt:83:1
 returns-3 : tie.Need-returns-3 Inv-loop μ-loop
 returns-3 c = search inv-end
 

@@ -9,10 +9,6 @@ use Rattle.table.specs.Check.{small-numbers, in-order, keeps-at}
 use borrow.Author.Needs.{needs}
 use Rattle.table.proofs.keeps_rules.Statement.{statement}
 use Rattle.table.proofs.keeps_rules.Tie as tie
-use Rattle.table.proofs.keeps_rules.Reads as reads
-use Rattle.table.proofs.keeps_rules.Lts as lts
-use Rattle.table.proofs.in_order.Reads as in-order-reads
-use Rattle.table.proofs.small_numbers.Reads as small-numbers-reads
 
 module _ (k : Task) {b : Bool} (e : b ≡ small-numbers k) where
   no-wrap : b ≡ true → (k .C ≤ 4294967295) × (k .S ≤ 4294967295)
@@ -25,19 +21,15 @@ module _ (k : Task) {b : Bool} (e : b ≡ small-numbers k) where
   too-large : b ≡ false → (timeout lower : ℕ) → false ≡ keeps-at timeout lower k
   too-large h timeout lower = rw (← e, h)
 
--- src/lib.rt:53:8
 small-numbers-requires : tie.Need-small-numbers-requires
 small-numbers-requires c κs = search needs
 
--- src/lib.rt:54:9
 in-order-requires : tie.Need-in-order-requires
 in-order-requires c κs = no-wrap _ (c .before .small-numbers .ensures) (c .if1 .taken)
 
--- src/lib.rt:54:9
 returns : tie.Need-returns
 returns c = search rest-decides
 
--- src/lib.rt:50:1
 returns-2 : tie.Need-returns-2
 returns-2 c = search too-large
 

@@ -9,9 +9,6 @@ use Rattle.table.specs.Check.{largest-from}
 use Rattle.table.proofs.Rules.{largest-none, largest-next}
 use Rattle.table.proofs.largest_from.Statement.{statement}
 use Rattle.table.proofs.largest_from.Tie as tie
-use Rattle.table.proofs.largest_from.Reads as reads
-use Rattle.table.proofs.largest_from.Lts as lts
-use Rattle.table.proofs.larger.Reads as larger-reads
 
 record Inv (longest : List ℕ) (from count top k : ℕ) : Type 0 where
   few : count ≤ 64
@@ -47,35 +44,27 @@ Inv-loop longest from count top₀ k₀ top k = Inv longest from count top k
 abbrev μ-loop : tie.MeasureT-loop
 μ-loop longest from count top₀ k₀ top k = k
 
--- src/lib.rt:75:5
 loop-holds : tie.Need-loop-holds Inv-loop μ-loop
 loop-holds c = inv-start (c .pre .0) (c .pre .1)
 
--- src/lib.rt:76:9
 sub-k : tie.Need-sub-k Inv-loop μ-loop
 sub-k c = search needs
 
--- src/lib.rt:77:22
 mul-larger : tie.Need-mul-larger Inv-loop μ-loop
 mul-larger c = search (needs, inv-known)
 
--- src/lib.rt:77:22
 element-copy-out-larger : tie.Need-element-copy-out-larger Inv-loop μ-loop
 element-copy-out-larger c = search (needs, inv-known)
 
--- src/lib.rt:77:9
 larger-requires : tie.Need-larger-requires Inv-loop μ-loop
 larger-requires c κs = search needs
 
--- src/lib.rt:75:5
 loop-less : tie.Need-loop-less Inv-loop μ-loop
 loop-less c = search needs
 
--- src/lib.rt:75:5
 loop-again : tie.Need-loop-again Inv-loop μ-loop
 loop-again c = search inv-next
 
--- src/lib.rt:69:1
 returns : tie.Need-returns Inv-loop μ-loop
 returns c = search inv-end
 

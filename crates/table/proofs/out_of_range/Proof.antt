@@ -1,12 +1,10 @@
+-- Five conditions, joined from the left.
 use mathlib.Core.List.{[], _∷_}
 use Rattle.laws.proofs.Sequences.{any-left}
 use Rattle.rules.specs.Table.{out-of-range}
 use Rattle.table.proofs.out_of_range.Statement.{statement}
 use Rattle.table.proofs.out_of_range.Tie as tie
-use Rattle.table.proofs.out_of_range.Reads as reads
-use Rattle.table.proofs.out_of_range.Lts as lts
 
--- src/lib.rt:28:1
 returns : tie.Need-returns
 unfolding out-of-range
 returns c = any-left _ (_ ∷ _ ∷ _ ∷ _ ∷ [])

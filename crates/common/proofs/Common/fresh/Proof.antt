@@ -1,3 +1,4 @@
+-- The fresh record is the one that stands for the rules' fresh record.
 use mathlib.Core.Path.{refl}
 use Rattle.laws.specs.Lists.{pad}
 use Rattle.common.proofs.Common.fresh.Statement.{statement}
