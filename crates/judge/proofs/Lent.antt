@@ -1,16 +1,26 @@
 -- The class of one entry read off the lent arrays is what the rules say of the table and the record.
-use mathlib.Core.Path.{_≡_, refl, sym, ap, _∙_}
-use mathlib.Core.Bool.{Bool, true, false}
+use mathlib.Core.Path.{_≡_, refl, sym, ap, ap₂, _∙_}
+use mathlib.Core.Bool.{Bool, true, false, _&&_, _||_}
 use mathlib.Core.Option.{Option, none, some}
 use mathlib.Core.List.{List}
 use Prim.Native.Nat.{ℕ, _+_, _-_, _^_, _≤_, _<_}
 use native.Mathlib.Omega.{arith}
-use borrow.Author.Tests.{ltb-false}
+use borrow.Author.Tests.{ltb-true, ltb-false}
+use Rattle.laws.specs.Tests.{_<?_, if_then_else_, found}
 use Rattle.laws.proofs.Tests.{none-of}
-use Rattle.rules.specs.Judge.{Report}
+use Rattle.laws.proofs.Search.{lowest-same}
+use Rattle.rules.specs.Common.{projection, breaker}
+use Rattle.rules.specs.Judge.{Report, malformed, over-bound, late, class}
+use Rattle.table.specs.declared.Table.{Table}
+use Rattle.table.specs.Table.{tableOf, Checked}
+use Rattle.table.proofs.Facts.{ranges}
+use Rattle.common.specs.declared.Common.{Common}
+use Rattle.common.specs.Common.{commonOf, Given}
 use Rattle.common.specs.Raw.{Summable}
+use Rattle.common.proofs.Records.{length-is, numbers}
+use Rattle.common.proofs.Raw.{projection-raw, breaker-raw, summable, boundable}
 use Rattle.judge.specs.declared.class.Before.{Before}
-use Rattle.judge.specs.Lent.{malformed-at}
+use Rattle.judge.specs.Lent.{before, malformed-at, end-at, broken-at, over-at, late-at, class-at, Judgeable}
 
 -- the sum of fewer asks less
 pub summable-less : {longest tasks : List ℕ} {start n : ℕ} → Summable longest tasks start n → (m : ℕ) → m ≤ n → Summable longest tasks start m
@@ -25,3 +35,59 @@ summable-less s m h = record {
 pub sum-within : (b : Before) (e : Report) → malformed-at b e ≡ false → e .progress + e .run ≤ b .base + b .kept
 unfolding malformed-at
 sum-within b e h = ltb-false _ _ (none-of _ h 1)
+
+-- "the first class that fits" is the same where each test that is reached is
+fits : Bool → Bool → Bool → Bool → ℕ
+fits a b d l = if a then 2 else if b then 3 else if d then 4 else if l then 5 else 0
+
+fits-same : (a a′ b d d′ l l′ : Bool) → a ≡ a′ → (a′ ≡ false → d ≡ d′) → (a′ ≡ false → l ≡ l′) → fits a b d l ≡ fits a′ b d′ l′
+unfolding fits
+fits-same a true b d d′ l l′ e f g = rw e
+fits-same a false b d d′ l l′ e f g = rw (e, f refl, g refl)
+
+module _ {t : Table} {c : Common} (k : Checked t) (g : Given t c) (r : ℕ) where
+  -- a position from O + 1 to L
+  broken-same : (p : ℕ) → c .offset < p → p ≤ c .base + c .count
+      → found (breaker (tableOf t) (commonOf c) p r) ≡ broken-at (t .longest) (t .slack) (c .tasks) (c .earliest) (before t c r) p
+  unfolding broken-at
+  broken-same p h l = ap found (breaker-raw g p r (omega (arith, numbers g .base)) l) ∙ rw (projection-raw g p l)
+
+  malformed-same : (e : Report) → malformed (tableOf t) (commonOf c) r e ≡ malformed-at (before t c r) e
+  unfolding malformed malformed-at
+  malformed-same e = rw (length-is g)
+
+  module _ (e : Report) (w : e .progress + e .run ≤ c .base + c .count) where
+    over-same : over-bound (tableOf t) (commonOf c) r e ≡ over-at (t .longest) (t .slack) (c .tasks) (c .earliest) (before t c r) (e .progress + e .run)
+    unfolding over-bound over-at
+    over-same = ap found (lowest-same _ _ (e .progress + e .run - c .offset) (λ i l. broken-same (c .offset + 1 + i) (omega arith) (omega arith)))
+
+    next-same : (s : Bool) → (e .progress <? c .offset) ≡ s
+        → (s && (projection (tableOf t) (commonOf c) (e .progress + 1) <? r)) ≡ (s && (end-at (t .longest) (t .slack) (c .tasks) (c .earliest) (before t c r) (e .progress + 1) <? r))
+    next-same true h = rw (projection-raw g (e .progress + 1) (omega (arith, ltb-true (e .progress) (c .offset) h, numbers g .offset)))
+    next-same false h = refl
+
+    late-same : late (tableOf t) (commonOf c) r e ≡ late-at (t .longest) (t .slack) (c .tasks) (c .earliest) (before t c r) e
+    unfolding late late-at
+    late-same = ap₂ _||_ (ap (λ n. n <? e .completed) (projection-raw g (e .progress) (omega arith))) (next-same (e .progress <? c .offset) refl)
+
+  pub class-same : (x : Option Report) → class-at (t .longest) (t .slack) (c .tasks) (c .earliest) (before t c r) x ≡ class (tableOf t) (commonOf c) r x
+  unfolding class class-at fits
+  class-same none = refl
+  class-same (some e) =
+      sym
+      (fits-same _ (malformed-at (before t c r) e) (e .progress <? c .base) _ _ _ _
+      (malformed-same e)
+      (λ f. over-same e (sum-within (before t c r) e f))
+      (λ f. late-same e (sum-within (before t c r) e f)))
+
+  -- what judging asks, of a checked table and a record that was given back, at a time that passes refusal 3
+  pub judgeable : r < 2 ^ 48 → Judgeable (t .longest) (t .slack) (c .tasks) (c .earliest) (before t c r)
+  judgeable h = record {
+    base = numbers g .base;
+    offset = numbers g .offset;
+    length-below = numbers g .length-below;
+    summable = summable k g (c .count) (omega arith);
+    boundable = boundable k g r (omega arith);
+    time = h;
+    timeout = omega (arith, ranges k .timeout);
+  }
