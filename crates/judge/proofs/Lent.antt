@@ -1,6 +1,6 @@
 -- The class of one entry read off the lent arrays is what the rules say of the table and the record.
 use mathlib.Core.Path.{_≡_, refl, sym, ap, ap₂, _∙_}
-use mathlib.Core.Bool.{Bool, true, false, _&&_, _||_}
+use mathlib.Core.Bool.{Bool, true, false, _&&_, _||_, false≢true}
 use mathlib.Core.Option.{Option, none, some}
 use mathlib.Core.List.{List}
 use Prim.Native.Nat.{ℕ, _+_, _-_, _^_, _≤_, _<_}
@@ -10,16 +10,17 @@ use Rattle.laws.specs.Tests.{_<?_, if_then_else_, found}
 use Rattle.laws.proofs.Tests.{none-of}
 use Rattle.laws.proofs.Search.{lowest-same}
 use Rattle.rules.specs.Common.{projection, breaker}
-use Rattle.rules.specs.Judge.{Report, malformed, over-bound, late, class}
+use Rattle.rules.specs.Judge.{Report, numbers, malformed, over-bound, late, class}
 use Rattle.table.specs.declared.Table.{Table}
 use Rattle.table.specs.Table.{tableOf, Checked}
 use Rattle.table.proofs.Facts.{ranges}
 use Rattle.common.specs.declared.Common.{Common}
 use Rattle.common.specs.Common.{commonOf, Given}
 use Rattle.common.specs.Raw.{Summable}
-use Rattle.common.proofs.Records.{length-is, numbers}
+use Rattle.common.proofs.Records as record-of
 use Rattle.common.proofs.Raw.{projection-raw, breaker-raw, summable, boundable}
 use Rattle.judge.specs.declared.class.Before.{Before}
+use Rattle.judge.specs.Classed.{in-front}
 use Rattle.judge.specs.Lent.{before, malformed-at, end-at, broken-at, over-at, late-at, class-at, Judgeable}
 
 -- the sum of fewer asks less
@@ -45,16 +46,30 @@ unfolding fits
 fits-same a true b d d′ l l′ e f g = rw e
 fits-same a false b d d′ l l′ e f g = rw (e, f refl, g refl)
 
+fits-front : (a b d l : Bool) → in-front (fits a b d l) ≡ true → a ≡ false
+unfolding fits
+fits-front true b d l h = absurd (false≢true h)
+fits-front false b d l h = refl
+
+-- the sum of one that counts is within L
+pub counted-within : (longest slack tasks earliest : List ℕ) (b : Before) (x : Option Report) → in-front (class-at longest slack tasks earliest b x) ≡ true
+    → (numbers x) .progress + (numbers x) .run ≤ b .base + b .kept
+unfolding class-at fits
+counted-within longest slack tasks earliest b none h = absurd (false≢true h)
+counted-within longest slack tasks earliest b (some e) h =
+    sum-within b e
+    (fits-front (malformed-at b e) (e .progress <? b .base) (over-at longest slack tasks earliest b (e .progress + e .run)) (late-at longest slack tasks earliest b e) h)
+
 module _ {t : Table} {c : Common} (k : Checked t) (g : Given t c) (r : ℕ) where
   -- a position from O + 1 to L
   broken-same : (p : ℕ) → c .offset < p → p ≤ c .base + c .count
       → found (breaker (tableOf t) (commonOf c) p r) ≡ broken-at (t .longest) (t .slack) (c .tasks) (c .earliest) (before t c r) p
   unfolding broken-at
-  broken-same p h l = ap found (breaker-raw g p r (omega (arith, numbers g .base)) l) ∙ rw (projection-raw g p l)
+  broken-same p h l = ap found (breaker-raw g p r (omega (arith, record-of.numbers g .base)) l) ∙ rw (projection-raw g p l)
 
   malformed-same : (e : Report) → malformed (tableOf t) (commonOf c) r e ≡ malformed-at (before t c r) e
   unfolding malformed malformed-at
-  malformed-same e = rw (length-is g)
+  malformed-same e = rw (record-of.length-is g)
 
   module _ (e : Report) (w : e .progress + e .run ≤ c .base + c .count) where
     over-same : over-bound (tableOf t) (commonOf c) r e ≡ over-at (t .longest) (t .slack) (c .tasks) (c .earliest) (before t c r) (e .progress + e .run)
@@ -63,7 +78,7 @@ module _ {t : Table} {c : Common} (k : Checked t) (g : Given t c) (r : ℕ) wher
 
     next-same : (s : Bool) → (e .progress <? c .offset) ≡ s
         → (s && (projection (tableOf t) (commonOf c) (e .progress + 1) <? r)) ≡ (s && (end-at (t .longest) (t .slack) (c .tasks) (c .earliest) (before t c r) (e .progress + 1) <? r))
-    next-same true h = rw (projection-raw g (e .progress + 1) (omega (arith, ltb-true (e .progress) (c .offset) h, numbers g .offset)))
+    next-same true h = rw (projection-raw g (e .progress + 1) (omega (arith, ltb-true (e .progress) (c .offset) h, record-of.numbers g .offset)))
     next-same false h = refl
 
     late-same : late (tableOf t) (commonOf c) r e ≡ late-at (t .longest) (t .slack) (c .tasks) (c .earliest) (before t c r) e
@@ -83,9 +98,9 @@ module _ {t : Table} {c : Common} (k : Checked t) (g : Given t c) (r : ℕ) wher
   -- what judging asks, of a checked table and a record that was given back, at a time that passes refusal 3
   pub judgeable : r < 2 ^ 48 → Judgeable (t .longest) (t .slack) (c .tasks) (c .earliest) (before t c r)
   judgeable h = record {
-    base = numbers g .base;
-    offset = numbers g .offset;
-    length-below = numbers g .length-below;
+    base = record-of.numbers g .base;
+    offset = record-of.numbers g .offset;
+    length-below = omega (arith, record-of.numbers g .length-below);
     summable = summable k g (c .count) (omega arith);
     boundable = boundable k g r (omega arith);
     time = h;

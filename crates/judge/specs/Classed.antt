@@ -1,21 +1,12 @@
--- An entry with its class, and one step of each pass over the entries of a round: the rules' own steps, read off the class and the numbers.
+-- One step of each pass over the entries of a round, each with its class: the rules' own steps, read off the class and the numbers.
 use mathlib.Core.Bool.{Bool, _&&_, _||_}
-use mathlib.Core.Option.{Option}
-use Prim.Native.Nat.{ℕ, _+_, max, min}
-use Rattle.laws.specs.Tests.{_=?_, if_then_else_}
-use Rattle.rules.specs.Table.{Table}
-use Rattle.rules.specs.Common.{Common}
-use Rattle.rules.specs.Judge.{Report, numbers, class, counts, start-of}
+use mathlib.Core.List.{List, foldr}
+use Prim.Native.Nat.{ℕ, max, min}
+use lib.ListN.{length, getD}
+use Rattle.laws.specs.Tests.{_=?_, if_then_else_, maybe}
+use Rattle.laws.specs.Search.{lowest}
 use Rattle.judge.specs.declared.passes.Classed.{Classed}
-
--- Progress + run is read only of classes 0 and 5: of another class it may be past the machine's width.
-abbrev pub classed-as : Table → Common → ℕ → Option Report → Classed
-classed-as tab c r x = record {
-  class = class tab c r x;
-  progress = (numbers x) .progress;
-  front = if counts tab c r x then (numbers x) .progress + (numbers x) .run else 0;
-  start = start-of tab c r (numbers x);
-}
+use Rattle.judge.specs.declared.passes.Back.{Back}
 
 abbrev pub no-class : Classed
 no-class = record { class = 0; progress = 0; front = 0; start = 0 }
@@ -45,3 +36,12 @@ start-step b x s = if is-rear b x then max (x .start) s else s
 -- "The nodes that reach it form a set"
 abbrev pub is-back : ℕ → ℕ → Classed → Bool
 is-back b s x = is-rear b x && (x .start =? s)
+
+-- "the back-runner is the lowest-numbered node of that set", 15 if none; "New B is its progress, new W the larger of old W and its start";
+-- "if there is none, B and W stay". B, W and L are those before the round.
+unfoldable pub back-of : ℕ → ℕ → ℕ → List Classed → Back
+back-of B W L l =
+    let least = foldr rear-step L l in
+    let latest = foldr (start-step least) 0 l in
+    maybe (record { node = 15; base = B; start = W }) (λ i. record { node = i; base = least; start = max W latest })
+    (lowest (λ i. is-back least latest (getD l i no-class)) (length l))

@@ -1,3 +1,3 @@
 pub mod Judgement
-pub mod Lent
 pub mod Classed
+pub mod Lent

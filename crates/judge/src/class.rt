@@ -20,7 +20,7 @@ pub struct Before {
 
 // 2: "run above 1, progress + run > L (as whole numbers), or completion time > r". A sum is taken only where it cannot wrap.
 fn is_malformed(b: Before, e: Report) -> bool
-    requires { ⌜ b .base + b .kept < 2 ^ 55 ⌝ }
+    requires { ⌜ b .base + b .kept < 2 ^ 56 ⌝ }
     ensures { λ r. ⌜ r ≡ malformed-at b (reportOf e) ⌝ }
 {
     let length = b.base + b.kept as u64;

@@ -1,5 +1,6 @@
 // How a round is judged.
 pub mod class;
+mod entries;
 mod passes;
 
 // The reply's classes, back-runner (15 if none) and notice, and the new B, W and O.

@@ -1,11 +1,13 @@
 // The passes over the entries of a round, from the highest node down.
 ghost use mathlib.Core.Path.{_≡_};
 ghost use mathlib.Core.List.{foldr, map};
-ghost use Prim.Native.Nat.{_≤_, _<_, max, min};
+ghost use Prim.Native.Nat.{_+_, _/_, _≤_, _<_, max, min};
 ghost use lib.ListN.{take};
+ghost use Rattle.laws.specs.Tests.{_≤?_};
+ghost use Rattle.laws.specs.Search.{number-of};
 ghost use Rattle.laws.specs.Lists.{pad};
 ghost use Rattle.laws.proofs.Folds.{bits, with-bit};
-ghost use Rattle.judge.specs.Classed.{class-in, in-front, front-step, rear-step, start-step, is-back};
+ghost use Rattle.judge.specs.Classed.{class-in, in-front, front-step, rear-step, start-step, is-back, back-of};
 
 // An entry with its class: what the passes over the entries of a round read of it.
 pub struct Classed {
@@ -34,7 +36,7 @@ fn smaller(a: u64, b: u64) -> u64
 }
 
 // "classes 0 and 5"
-fn counts(class: u8) -> bool
+pub fn counts(class: u8) -> bool
     ensures { λ r. ⌜ r ≡ in-front class ⌝ }
 {
     if class == 0 {
@@ -44,7 +46,7 @@ fn counts(class: u8) -> bool
 }
 
 // "New O: the largest of old O and progress + run over classes 0 and 5."
-fn new_offset(all: [Classed; 15], n: usize, offset: u64) -> u64
+pub fn new_offset(all: [Classed; 15], n: usize, offset: u64) -> u64
     requires { ⌜ n ≤ 15 ⌝ }
     ensures { λ r. ⌜ r ≡ foldr front-step offset (take n all) ⌝ }
 {
@@ -160,7 +162,7 @@ fn front_set(all: [Classed; 15], n: usize) -> u16
 }
 
 // "one class number for each of fifteen places (places beyond m hold 0)"
-fn classes_of(all: [Classed; 15], n: usize) -> [u8; 15]
+pub fn classes_of(all: [Classed; 15], n: usize) -> [u8; 15]
     requires { ⌜ n ≤ 15 ⌝ }
     ensures { λ r. ⌜ r ≡ pad 15 0 (map class-in (take n all)) ⌝ }
 {
@@ -172,4 +174,45 @@ fn classes_of(all: [Classed; 15], n: usize) -> [u8; 15]
         i += 1;
     }
     classes
+}
+
+// The back-runner, and B and W after the round.
+pub struct Back {
+    pub node: u64,
+    pub base: u64,
+    pub start: u64,
+}
+
+// "the back-runner is the lowest-numbered node of that set": its trailing zeros.
+pub fn back_runner(all: [Classed; 15], n: usize, base: u64, start: u64, length: u64) -> Back
+    requires { ⌜ n ≤ 15 ⌝ }
+    ensures { λ r. ⌜ r ≡ back-of base start length (take n all) ⌝ }
+{
+    let least = least_progress(all, n, length);
+    let latest = largest_start(all, n, least);
+    let set = back_set(all, n, least, latest);
+    if set == 0 {
+        return Back {
+            node: 15,
+            base,
+            start,
+        };
+    }
+    let node = u16::trailing_zeros(set) as u64;
+    let next = larger(start, latest);
+    Back {
+        node,
+        base: least,
+        start: next,
+    }
+}
+
+// "whether the number of nodes in class 0 or 5 is at least half of m, rounded down, plus 1": its ones.
+pub fn has_majority(all: [Classed; 15], n: usize, nodes: u64) -> bool
+    requires { ⌜ n ≤ 15 ⌝ }
+    ensures { λ r. ⌜ r ≡ (nodes / 2 + 1 ≤? number-of (λ x. in-front (class-in x)) (take n all)) ⌝ }
+{
+    let set = front_set(all, n);
+    let counted = u16::count_ones(set) as u64;
+    nodes / 2 + 1 <= counted
 }

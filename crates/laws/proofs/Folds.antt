@@ -1,7 +1,6 @@
 -- Folds as a loop from the last element down makes them, and sets as the bits of a number.
 --     fold-start, fold-next, fold-end     the laws by which such a loop's proof goes
 --     fill-start, fill-next, fill-end     a loop that writes what each element stands for into an array
---     rows-of                             the first n of a sequence that is read off a list
 --     foldr-map, foldr-same               a fold over what each element stands for; steps that agree
 --     gather-start, -small, -next, -end   the same loop, where it makes a set
 --     ones-bits, none-bits, some-bits     how many are in a set, and which is the lowest
@@ -19,7 +18,7 @@ use lib.Seq.{take-suc, length-take-le}
 use native.Mathlib.Numerals.{add-one}
 use Rattle.laws.specs.Tests.{if_then_else_, or-else, maybe}
 use Rattle.laws.specs.Search.{lowest, number-of}
-use Rattle.laws.specs.Lists.{rows, pad}
+use Rattle.laws.specs.Lists.{pad}
 use Rattle.laws.proofs.Lists.{map-append, pad-snoc}
 
 module _ {A B : Type 0} (f : A → B → B) where
@@ -85,13 +84,6 @@ module _ {A B : Type 0} (f : A → B) (k : ℕ) (blank : B) where
     fill-end h =
         let e : i ≡ n = omega (arith, v .to) in
         v .is ∙ rw e
-
--- the first n of a sequence that is read off a list
-pub rows-of : {A B : Type 0} (f : A → B) (d : A) (l : List A) (n : ℕ) → n ≤ length l → rows (λ i. f (getD l i d)) n ≡ map f (take n l)
-unfolding rows
-rows-of f d l zero h = refl
-rows-of f d [] (suc n) h = absurd (omega arith)
-rows-of {B = B} f d (x ∷ l) (suc n) h = ap (λ (r : List B). f x ∷ r) (rows-of f d l n (omega arith))
 
 -- one bit more, below the others
 abbrev pub with-bit : Bool → ℕ → ℕ

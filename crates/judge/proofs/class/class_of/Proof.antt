@@ -31,7 +31,7 @@ module _ (b : Before) (e : Report) {m : Bool} (k : m ≡ malformed-at b (reportO
   progress-within : e .progress ≤ b .base + b .kept
   progress-within = omega (arith, within)
 
-  sum-fits : b .base + b .kept < 2 ^ 55 → Fits w64 (e .progress + e .run)
+  sum-fits : b .base + b .kept < 2 ^ 56 → Fits w64 (e .progress + e .run)
   sum-fits h = record { fits = omega (arith, within) }
 
 module _ (longest slack tasks earliest : List ℕ) (b : Before) (entry : Entry) where
