@@ -16,7 +16,6 @@ pub mod Ordered
 pub mod Rising
 pub mod Basis
 pub mod Invariant
-pub mod Permits
 pub mod Calls
 pub mod Runs
 pub mod Demand
