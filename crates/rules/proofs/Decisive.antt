@@ -54,6 +54,14 @@ pub lock-holds : Seen (after (begun 8 ++ both-report 12 ++ (B (start-at 13) ∷ 
 unfolding all asked stepped run apply-whole whole-after order-after
 lock-holds = record { closes = refl; starts = refl; orders = refl }
 
+-- The bound: B may not start position 2 at 11. Had it done so, its report at 11 would be of class 4, and task 0 would go in ahead of what it has started.
+abbrev bound-11 : Round
+bound-11 = round-at 11 (released 0 0 ∷ []) (nodes (sends 0 0 1) (sends 1 8 0) none)
+
+pub bound-holds : Seen (after (begun 8 ++ (B (start-at 11) ∷ []) ++ both-report 11 ++ both-close bound-11) 1) (round-0 ∷ bound-11 ∷ []) (1 ∷ []) (1 ∷ 0 ∷ 2 ∷ [])
+unfolding all asked stepped run apply-whole whole-after order-after
+bound-holds = record { closes = refl; starts = refl; orders = refl }
+
 -- The running job: B has started position 2 at 12 and says so. Were its run 0, task 0 would go in ahead of it.
 abbrev running-12 : Round
 running-12 = round-at 12 (released 0 0 ∷ []) (nodes (sends 0 0 1) (sends 1 8 1) none)

@@ -29,5 +29,6 @@ pub mod Trip
 pub mod Back
 pub mod RoundTrips
 pub mod Alone
+pub mod Station
 pub mod Worked
 pub mod Decisive
