@@ -1,14 +1,14 @@
 -- Any single node is healthy by itself, after any calls: each record that it closed holds the report that it sent for it (refusals 12 and 13).
-use mathlib.Core.Path.{_≡_, refl, sym, _∙_, subst}
-use mathlib.Core.Logic.{_⊎_, inl, inr, ⊎-elim}
-use mathlib.Core.Option.{Option, some}
-use mathlib.Core.List.{List, [], _∷_, _++_, List·Memᴰ, List·Memᴰ·head, List·Memᴰ·not-nil, List·Memᴰ·append-cases, List·Memᴰ·eq-of-singleton, Memᴰ·append-left, Memᴰ·append-right, Memᴰ·cast}
+use mathlib.Core.Path.{_≡_, sym, _∙_, subst}
+use mathlib.Core.Logic.{inl, inr, ⊎-elim}
+use mathlib.Core.Option.{some}
+use mathlib.Core.List.{List, [], _∷_, List·Memᴰ, List·Memᴰ·head, List·Memᴰ·not-nil, List·Memᴰ·append-cases, List·Memᴰ·eq-of-singleton, Memᴰ·append-left, Memᴰ·append-right, Memᴰ·cast}
 use Prim.Native.Nat.{ℕ}
 use Rattle.laws.proofs.Tests.{none≢some}
 use Rattle.laws.proofs.Lists.{prefix-refl}
-use Rattle.rules.specs.Answer.{Answer, done}
+use Rattle.rules.specs.Answer.{done}
 use Rattle.rules.specs.Table.{Table}
-use Rattle.rules.specs.Judge.{Report, Round}
+use Rattle.rules.specs.Judge.{Round}
 use Rattle.rules.specs.Node.{Open, Node, Started, start, finish, report-of, Reported, report, NodeClosed, node-close}
 use Rattle.rules.specs.Cabinet.{Call, start-at, finish-at, report-at, close-with, Watched, new-watched, saw-start, saw-finish, saw-report, saw-close, asked, Step, run}
 use Rattle.rules.specs.Agreement.{Holds, Healthy}

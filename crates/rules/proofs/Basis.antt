@@ -2,11 +2,11 @@
 -- change of the rules costs demand 3 what it costs here.
 use mathlib.Core.Path.{_≡_}
 use mathlib.Core.Bool.{true}
-use mathlib.Core.Option.{Option, none, some}
+use mathlib.Core.Option.{none, some}
 use mathlib.Core.List.{List, [], _∷_, _++_}
 use Prim.Native.Nat.{ℕ, _+_, _≤_, _<_}
 use lib.ListN.{length, getD}
-use Rattle.rules.specs.Answer.{Answer, done}
+use Rattle.rules.specs.Answer.{done}
 use Rattle.rules.specs.Table.{Table}
 use Rattle.rules.specs.Common.{Job, Common, L, job-at, within-bound}
 use Rattle.rules.specs.Judge.{Report, Round}

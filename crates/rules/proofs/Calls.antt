@@ -2,14 +2,13 @@
 use mathlib.Core.Path.{_≡_, refl, sym, ap, _∙_, subst}
 use mathlib.Core.Bool.{Bool, true, false, _&&_, _||_}
 use mathlib.Core.Logic.{_⊎_, inl, inr, ⊎-elim}
-use mathlib.Core.Option.{Option, none, some}
+use mathlib.Core.Option.{none, some}
 use mathlib.Core.List.{List, [], _∷_, _++_, append-assoc, List·Memᴰ, List·Memᴰ·append-cases, List·Memᴰ·eq-of-singleton}
 use Prim.Native.Nat.{ℕ, _+_, _≤_, _<_, max}
 use native.Mathlib.Omega.{arith}
 use lib.ListN.{length, getD, length-append}
 use borrow.Author.Tests.{leb-true, lt-leb}
 use Rattle.laws.specs.Tests.{_<?_, _≤?_, if_then_else_}
-use Rattle.laws.specs.Lists.{Prefix}
 use Rattle.laws.proofs.Tests.{lt-or-ge, and-yes, none≢some}
 use Rattle.laws.proofs.Lists.{prefix-snoc, prefix-length}
 use Rattle.rules.specs.Answer.{Answer, done, refused, refused-by}

@@ -1,14 +1,14 @@
 -- Runs of the worked canal in which one rule decides whether A and B (numbers 0 and 1) agree: each says what is seen, and what would be if the rule were
 -- another.
 use mathlib.Core.Path.{_≡_, refl}
-use mathlib.Core.Option.{Option, none, some}
+use mathlib.Core.Option.{none}
 use mathlib.Core.List.{List, [], _∷_, _++_}
 use Prim.Native.Nat.{ℕ}
-use Rattle.rules.specs.Answer.{Answer, refused}
+use Rattle.rules.specs.Answer.{refused}
 use Rattle.rules.specs.Common.{Common}
 use Rattle.rules.specs.Judge.{Round, class}
 use Rattle.rules.specs.Node.{Node, report}
-use Rattle.rules.specs.Cabinet.{Call, start-at, finish-at, report-at, close-with, Watched, asked, Step, Cabinet, stepped, run}
+use Rattle.rules.specs.Cabinet.{start-at, finish-at, report-at, close-with, Watched, asked, Step, stepped, run}
 use Rattle.rules.specs.Agreement.{apply-whole, whole-after, order-after}
 use Rattle.rules.specs.Canal.{canal, sends, released, nodes, round-at, round-0}
 use Rattle.rules.specs.All.{all}

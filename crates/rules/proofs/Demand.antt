@@ -1,8 +1,8 @@
 -- Demand 3 from what it rests on: the invariant of each node, and healthiness, which is used once.
-use mathlib.Core.Path.{_≡_, refl, sym, ap, _∙_, subst}
+use mathlib.Core.Path.{_≡_, sym, ap, _∙_}
 use mathlib.Core.Bool.{true}
 use mathlib.Core.Logic.{_⊎_, inl, inr, ⊎-elim}
-use mathlib.Core.Option.{Option, none, some}
+use mathlib.Core.Option.{none, some}
 use mathlib.Core.List.{List, [], _∷_, _++_, append-assoc, append-nil, List·Memᴰ, Memᴰ·append-left}
 use Prim.Native.Nat.{ℕ, _≤_, _<_}
 use native.Mathlib.Omega.{arith}
@@ -11,13 +11,12 @@ use borrow.Author.Tests.{ltb-true}
 use Rattle.laws.specs.Lists.{Prefix}
 use Rattle.laws.proofs.Tests.{lt-or-ge, none≢some}
 use Rattle.rules.specs.Table.{Table}
-use Rattle.rules.specs.Common.{Common}
 use Rattle.rules.specs.Judge.{Report, Round}
 use Rattle.rules.specs.Node.{Open, Node, left-behind}
 use Rattle.rules.specs.Cabinet.{Watched, Step, run}
 use Rattle.rules.specs.Agreement.{common-after, Good, entry-of, Sent, Holds, Healthy, Agrees}
 use Rattle.rules.proofs.Ordered.{Later, others-order}
-use Rattle.rules.proofs.Basis.{offset-after, OrderBasis, Basis}
+use Rattle.rules.proofs.Basis.{offset-after, Basis}
 use Rattle.rules.proofs.Rising.{Rising, mem-split, rising-apart, same-place}
 use Rattle.rules.proofs.Invariant.{Answered, Inv}
 use Rattle.rules.proofs.Calls.{O-up, O-past}

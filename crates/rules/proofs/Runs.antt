@@ -1,5 +1,5 @@
 -- Runs of a cabinet: every node keeps the invariant, and what a node is later follows what it was.
-use mathlib.Core.Path.{_≡_, refl}
+use mathlib.Core.Path.{refl}
 use mathlib.Core.Bool.{Bool, true, false}
 use mathlib.Core.List.{List, [], _∷_, _++_, foldl, foldl-append, List·Memᴰ·not-nil}
 use Prim.Native.Nat.{ℕ}

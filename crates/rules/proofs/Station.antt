@@ -1,7 +1,7 @@
 -- The order that a node's closed records give on their own is the one of a station that is given them: it accepts each, and then holds the node's own
 -- common record.
-use mathlib.Core.Path.{_≡_, refl, sym, ap, _∙_, subst}
-use mathlib.Core.List.{List, [], _∷_, _++_, foldl, foldl-append}
+use mathlib.Core.Path.{_≡_, refl, sym, ap, _∙_}
+use mathlib.Core.List.{List, [], _∷_, foldl, foldl-append}
 use Prim.Native.Nat.{ℕ}
 use Rattle.rules.specs.Answer.{Answer, done, _>>=_}
 use Rattle.rules.specs.Table.{Table, check}

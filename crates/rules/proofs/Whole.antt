@@ -1,28 +1,27 @@
 -- The order from position 1 on, and the jobs that the common record keeps of it: the rules of document 01 have what demand 3 rests on.
---     order-is-kept    past the jobs dropped, the order is the kept jobs
+--     placed-after     the jobs dropped are those up to B, and B ≤ O ≤ L, after any records
+--     names            the job that stands past B in the common record is the one of the order
 --     basis            what demand 3 rests on, for a checked table
 use mathlib.Core.Path.{_≡_, refl, sym, ap, _∙_, subst}
 use mathlib.Core.Bool.{true}
-use mathlib.Core.Logic.{_⊎_, inl, inr}
-use mathlib.Core.Option.{Option, none, some}
+use mathlib.Core.Logic.{inl, inr}
+use mathlib.Core.Option.{none, some}
 use mathlib.Core.List.{List, [], _∷_, _++_, map, foldl, foldl-append, append-assoc}
-use Prim.Native.Nat.{ℕ, _+_, _-_, _≤_, _<_}
+use Prim.Native.Nat.{ℕ, _+_, _-_, _≤_}
 use native.Mathlib.Omega.{arith}
 use lib.ListN.{length, take, drop, getD, length-append, length-take, length-map, take-append-drop, List·getD-map}
 use lib.Seq.{take-append-add, getD-append-add}
 use Rattle.laws.proofs.Lists.{map-take}
-use Rattle.rules.specs.Answer.{Answer, done}
-use Rattle.rules.specs.Table.{Table, check}
+use Rattle.rules.specs.Table.{Table}
 use Rattle.rules.specs.Common.{Job, Common, no-job, fresh, L, job-at}
 use Rattle.rules.specs.Judge.{Report, Round, counts}
 use Rattle.rules.specs.Close.{Closed, judged, applied}
 use Rattle.rules.specs.Agreement.{Whole, apply-whole, whole-after, common-after, order-after, Good}
 use Rattle.rules.proofs.Tables.{Fit}
 use Rattle.rules.proofs.Bound.{bound-stays, each-bound}
-use Rattle.rules.proofs.Judging.{Stands, counted, zero-or-five}
+use Rattle.rules.proofs.Judging.{counted, zero-or-five}
 use Rattle.rules.proofs.Releasing.{Released}
 use Rattle.rules.proofs.Closing.{close-gives, Onward, applied-keeps, applied-reaches, judged-between, applied-between, applied-onward}
-use Rattle.rules.proofs.Ordered.{Ordered}
 use Rattle.rules.proofs.Basis.{offset-after, Bounded, OrderBasis, Basis}
 
 -- "Jobs at positions up to B are dropped"; "Always B ≤ O ≤ L"
@@ -100,8 +99,7 @@ module _ (tab : Table) where
   unfolding order-after
   long qs = simp (length-map, length-append) (omega (arith, (placed-after qs) .gone))
 
-  -- the bridge: the job that stands past B in the common record is the one of the order
-  names : (qs : List Round) (p : ℕ) → (common-after tab qs) .B ≤ p → (job-at (common-after tab qs) (p + 1)) .task-of ≡ getD (order-after tab qs) p 0
+  pub names : (qs : List Round) (p : ℕ) → (common-after tab qs) .B ≤ p → (job-at (common-after tab qs) (p + 1)) .task-of ≡ getD (order-after tab qs) p 0
   unfolding order-after
   names qs p h =
       let w : Whole = whole-after tab qs in

@@ -3,14 +3,14 @@
 use mathlib.Core.Path.{_≡_, refl, sym, subst}
 use mathlib.Core.Bool.{true}
 use mathlib.Core.Logic.{_⊎_, inl, inr}
-use mathlib.Core.Option.{Option, none, some}
+use mathlib.Core.Option.{none}
 use mathlib.Core.List.{List, [], _∷_, _++_, List·Memᴰ, List·Memᴰ·head, List·Memᴰ·tail, List·Memᴰ·not-nil, List·Memᴰ·cases-cons, Memᴰ·append-left}
 use Prim.Native.Nat.{ℕ, zero, suc}
 use lib.ListN.{take}
 use Rattle.laws.specs.Lists.{Prefix}
 use Rattle.laws.proofs.Lists.{prefix-refl}
-use Rattle.rules.specs.Answer.{Answer, done, refused, refused-by}
-use Rattle.rules.specs.Table.{Table, check}
+use Rattle.rules.specs.Answer.{done, refused, refused-by}
+use Rattle.rules.specs.Table.{check}
 use Rattle.rules.specs.Judge.{Report, Round}
 use Rattle.rules.specs.Node.{Open, Node, left-behind, start}
 use Rattle.rules.specs.Cabinet.{Call, start-at, finish-at, report-at, close-with, Watched, asked, Step, Cabinet, stepped, run}

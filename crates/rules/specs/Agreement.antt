@@ -7,7 +7,7 @@ use mathlib.Core.List.{List, [], _∷_, _++_, map, foldl, List·Memᴰ}
 use Prim.Native.Nat.{ℕ, _-_, _≤_}
 use lib.ListN.{length, take, getD}
 use Rattle.laws.specs.Lists.{Prefix}
-use Rattle.rules.specs.Answer.{Answer, done}
+use Rattle.rules.specs.Answer.{done}
 use Rattle.rules.specs.Table.{Table, check}
 use Rattle.rules.specs.Common.{Job, Common, fresh}
 use Rattle.rules.specs.Judge.{Report, Round, class}

@@ -4,7 +4,7 @@ use Prim.Native.Nat.{ℕ}
 use Rattle.laws.specs.Tests.{_=?_, if_then_else_}
 use Rattle.rules.specs.Answer.{Answer, done, refused, refused-by}
 use Rattle.rules.specs.Table.{Table}
-use Rattle.rules.specs.Judge.{Report, Round}
+use Rattle.rules.specs.Judge.{Round}
 use Rattle.rules.specs.Node.{Open, Node, new-node, Started, start, finish, Reported, report, NodeClosed, node-close}
 
 -- What a node is asked. The times and the records are free: jobs take as long as they take, and whoever makes the records puts into them what he likes.
