@@ -14,7 +14,7 @@ use Rattle.rules.specs.Judge.{Report, Release, Round}
 use Rattle.rules.specs.Numbers.{Read, Reads, _>>=_, after, give, groups-after, number, groups, number-bytes}
 use Rattle.rules.specs.Written.{times, counted, read-release, read-report, read-entry, read-record, entry-numbers, numbers-of, bytes-of, too-large, record-bytes}
 use Rattle.rules.specs.RoundTrips.{Bytes}
-use Rattle.rules.proofs.Reading.{Gives, so, stop, stop-by, gives-at, gives-all, gives-after, gives-refuse, gives-if}
+use Rattle.rules.proofs.Reading.{Gives, so, stop, gives-at, gives-all, gives-after, gives-refuse, gives-if}
 use Rattle.rules.proofs.Sizes.{one-group}
 use Rattle.rules.proofs.Trip.{release-numbers}
 use Rattle.laws.proofs.Digits.{group-fits}

@@ -19,11 +19,10 @@ use Rattle.rules.specs.Numbers.{Read, Reads, _>>=_, after, give, groups-
 use Rattle.rules.specs.Written.{times, counted, read-release, read-report, read-entry, read-record}
 use Rattle.rules.proofs.Answers.{refused≢done}
 
--- what holds of an answer, if it is one
+-- what holds of an answer, if it is one; a refusal of these names no task
 pub data Gives {A : Type 0} (P : A → Type 0) : Answer A → Type 0 where
   so : {a : A} → P a → Gives P (done a)
   stop : {n : ℕ} → Gives P (refused n)
-  stop-by : {n i : ℕ} → Gives P (refused-by n i)
 
 pub gives-at : {A : Type 0} {P : A → Type 0} {a : A} → Gives P (done a) → P a
 gives-at (so p) = p
@@ -31,13 +30,11 @@ gives-at (so p) = p
 pub gives-all : {A : Type 0} {P Q : A → Type 0} {a : Answer A} → Gives P a → ((x : A) → P x → Q x) → Gives Q a
 gives-all (so {a = x} p) f = so (f x p)
 gives-all stop f = stop
-gives-all stop-by f = stop-by
 
 pub gives-after : {A B : Type 0} {P : Read A → Type 0} {Q : Read B → Type 0} {a : Answer (Read A)} (f : A → Reads B)
     → Gives P a → ((x : Read A) → P x → Gives Q (f (x .value) (x .rest))) → Gives Q (after a f)
 gives-after f (so {a = x} p) g = g x p
 gives-after f stop g = stop
-gives-after f stop-by g = stop-by
 
 pub gives-refuse : {A : Type 0} {P : A → Type 0} (k : ℕ) (t : Bool) {a : Answer A} → (t ≡ false → Gives P a) → Gives P (refuse k if t else a)
 gives-refuse k true g = stop
@@ -56,10 +53,10 @@ pub record Took {A : Type 0} (rd : Reads A) (s : List ℕ) (x : Read A) : Type 0
 pub record Takes {A : Type 0} (rd : Reads A) : Type 0 where
   pub from : (s : List ℕ) → Gives (Took rd s) (rd s)
 
-give-takes : {A : Type 0} {a : A} → Takes (give a)
+pub give-takes : {A : Type 0} {a : A} → Takes (give a)
 give-takes = record { from = λ s. so (record { taken = []; whole = refl; alone = λ t. refl }) }
 
-then-takes : {A B : Type 0} {rd : Reads A} {f : A → Reads B} → Takes rd → ((x : A) → Takes (f x)) → Takes (rd >>= f)
+pub then-takes : {A B : Type 0} {rd : Reads A} {f : A → Reads B} → Takes rd → ((x : A) → Takes (f x)) → Takes (rd >>= f)
 then-takes {A} {B} {rd} {f} h g = record { from = λ s. gives-after f (h .from s) λ x p. gives-all (g (x .value) .from (x .rest)) (both s x p) }
   where
     both : (s : List ℕ) (x : Read A) → Took rd s x → (y : Read B) → Took (f (x .value)) (x .rest) y → Took (rd >>= f) s y
@@ -138,7 +135,6 @@ stopped-gives :
     stopped c a f ≡ stopped c a g
 stopped-gives c f g (so {a = x} p) e = e x p
 stopped-gives c f g stop e = refl
-stopped-gives c f g stop-by e = refl
 
 stopped-same : {A : Type 0} (c : Common) (a : Answer A) (f g : A → List Line) → ((x : A) → f x ≡ g x) → stopped c a f ≡ stopped c a g
 stopped-same c (done x) f g e = e x

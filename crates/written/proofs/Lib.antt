@@ -1,3 +1,7 @@
 -- Laws that the proofs of the functions share.
 pub mod Groups
 pub mod Putting
+pub mod Told
+pub mod Elements
+pub mod Listing
+pub mod Parts

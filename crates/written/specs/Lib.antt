@@ -1,2 +1,3 @@
 -- What the code answers, in the words of the rules.
 pub mod Numbers
+pub mod Records

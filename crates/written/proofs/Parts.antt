@@ -1,0 +1,32 @@
+-- A record is a time and its two lists, in the readers that the code has: the rules' own, grouped.
+use mathlib.Core.Path.{_≡_, refl, sym, ap, _∙_}
+use mathlib.Core.List.{List}
+use Prim.Native.Nat.{ℕ}
+use Rattle.rules.specs.Answer.{Answer, done, refused, refused-by}
+use Rattle.rules.specs.Judge as rules
+use Rattle.rules.specs.Numbers.{Read, Reads, after, give, number}
+use Rattle.rules.specs.Written.{times, counted, read-release, read-entry, read-record}
+use Rattle.written.specs.Records.{release-list, entry-list, lists}
+
+after-same : {A B : Type 0} (a : Answer (Read A)) {f g : A → Reads B} → ((x : A) (s : List ℕ) → f x s ≡ g x s) → after a f ≡ after a g
+after-same (done x) e = e (x .value) (x .rest)
+after-same (refused n) e = refl
+after-same (refused-by n i) e = refl
+
+after-after : {A B C : Type 0} (a : Answer (Read A)) (f : A → Reads B) (g : B → Reads C) → after (after a f) g ≡ after a (λ x s. after (f x s) g)
+after-after (done x) f g = refl
+after-after (refused n) f g = refl
+after-after (refused-by n i) f g = refl
+
+-- a count, its limit and its list before what follows
+counted-first :
+    {A B : Type 0} (limit : ℕ) (rd : Reads A) (h : List A → Reads B) (s : List ℕ) →
+    after (number s) (λ n s. after (counted limit limit n s) (λ m s. after (times m rd s) h)) ≡ after (after (after (number s) (counted limit limit)) (λ n. times n rd)) h
+counted-first limit rd h s =
+    sym (ap (λ a. after a h) (after-after (number s) (counted limit limit) (λ n. times n rd)) ∙ after-after (number s) _ h
+    ∙ after-same (number s) (λ n t. after-after (counted limit limit n t) (λ m. times m rd) h))
+
+pub record-parts : (s : List ℕ) → read-record 64 15 s ≡ after (number s) lists
+unfolding read-record
+record-parts s = after-same (number s) λ r t.
+    counted-first 64 read-release _ t ∙ after-same (release-list t) λ xs u. counted-first 15 read-entry (λ es. give (record { r = r; releases = xs; entries = es })) u
