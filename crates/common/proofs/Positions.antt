@@ -1,6 +1,6 @@
 -- A position of a record that was given back: what the arrays say there is what the rules say.
-use mathlib.Core.Path.{_≡_, sym, ap, _∙_}
-use Prim.Native.Nat.{ℕ, _+_, _-_, _^_, _≤_, _<_}
+use mathlib.Core.Path.{_≡_, sym, _∙_}
+use Prim.Native.Nat.{ℕ, _+_, _-_, _≤_}
 use native.Mathlib.Omega.{arith}
 use lib.ListN.{getD}
 use Rattle.rules.specs.Common as rules
@@ -10,7 +10,7 @@ use Rattle.common.specs.declared.Common.{Common}
 use Rattle.common.specs.declared.Breach.{Breach}
 use Rattle.common.specs.Common.{commonOf}
 use Rattle.common.specs.Positions.{Projectable, Occupied}
-use Rattle.common.specs.Raw.{earliest-of, projected-at, breaker-at, breachOf, Summable, Boundable}
+use Rattle.common.specs.Raw.{projected-at, breaker-at, breachOf, Summable, Boundable}
 use Rattle.common.proofs.Records.{length-is}
 use Rattle.common.proofs.Raw.{projection-raw, breaker-raw, summable, boundable}
 

@@ -1,14 +1,11 @@
 -- What is read off the arrays is what the rules say of the table and the record, and both may be asked of a checked table and a record that was given back.
-use mathlib.Core.Path.{_≡_, refl, sym, ap, _∙_}
-use mathlib.Core.Bool.{Bool, _&&_}
-use mathlib.Core.Option.{Option}
-use mathlib.Core.List.{List, map}
+use mathlib.Core.Path.{_≡_, refl, ap, _∙_}
+use mathlib.Core.List.{List}
 use Prim.Native.Nat.{ℕ, _+_, _-_, _^_, _≤_, _<_}
 use native.Mathlib.Omega.{arith}
-use lib.ListN.{length, take, getD}
+use lib.ListN.{getD}
 use Rattle.laws.specs.Search.{lowest}
 use Rattle.laws.specs.Sums.{total}
-use Rattle.laws.specs.Lists.{rows}
 use Rattle.laws.proofs.Search.{lowest-same}
 use Rattle.laws.proofs.Sequences.{rows-take, rows-same}
 use Rattle.rules.specs.Table.{task, Task}

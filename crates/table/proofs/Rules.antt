@@ -1,17 +1,16 @@
 -- The rules of a table, read off its arrays a task at a time, and the answers of the check.
-use mathlib.Core.Path.{_≡_, refl, sym, ap, _∙_}
-use mathlib.Core.Bool.{Bool, true, false, not, _&&_}
-use mathlib.Core.Option.{Option, none, some}
+use mathlib.Core.Path.{_≡_, refl, ap, _∙_}
+use mathlib.Core.Bool.{Bool, true, false, not}
+use mathlib.Core.Option.{none, some}
 use mathlib.Core.List.{List, [], _∷_, foldr}
 use Prim.Native.Nat.{ℕ, zero, suc, _+_, _-_, _≤_, _<_, max}
 use native.Mathlib.Omega.{arith}
 use native.Mathlib.Numerals.{add-one}
-use lib.ListN.{length, drop, getD, drop-of-length-le}
+use lib.ListN.{drop, getD, drop-of-length-le}
 use Rattle.laws.specs.Search.{lowest}
 use Rattle.laws.specs.Lists.{rows}
 use Rattle.laws.proofs.Lists.{length-rows}
 use Rattle.laws.proofs.Sequences.{rows-drop, all-append}
-use Rattle.rules.specs.Answer.{Answer, done, refused, refused-by}
 use Rattle.rules.specs.Table as rules
 use Rattle.table.specs.declared.Table.{Table}
 use Rattle.table.specs.declared.TableCheck.the-variants.{Passes, OutOfRange, Broken}
