@@ -15,7 +15,7 @@ use Rattle.rules.specs.Table as rules
 use Rattle.table.specs.declared.Table.{Table}
 use Rattle.table.specs.declared.TableCheck.the-variants.{Passes, OutOfRange, Broken}
 use Rattle.table.specs.Table.{row, tableOf}
-use Rattle.table.specs.Check.{answerOf, small-numbers, in-order, keeps-at, largest-from}
+use Rattle.table.specs.Check.{answerOf, small-numbers, in-order, keeps-numbers, largest-from}
 use Rattle.table.proofs.Facts.{tasks-count, task-row}
 
 module _ (longest : List ℕ) (count : ℕ) where
@@ -43,7 +43,7 @@ pub lower-is : (t : Table) (i : ℕ) → rules.largest-lower-C (tableOf t) i ≡
 unfolding rules.largest-lower-C largest-from
 lower-is t i = rw (add-one i) (largest-of (row t) (t .count) (suc i))
 
-pub keeps-is : (t : Table) (i : ℕ) → i < t .count → rules.keeps-rules (tableOf t) i ≡ keeps-at (t .timeout) (largest-from (t .longest) (i + 1) (t .count)) (row t i)
+pub keeps-is : (t : Table) (i : ℕ) → i < t .count → rules.keeps-rules (tableOf t) i ≡ keeps-numbers (t .timeout) (largest-from (t .longest) (i + 1) (t .count)) (row t i)
 unfolding rules.keeps-rules small-numbers in-order
 keeps-is t i h = rw (task-row t i h, lower-is t i) (all-append (_ ∷ _ ∷ _ ∷ _ ∷ []) _)
 

@@ -25,9 +25,15 @@ unfoldable pub in-order : ℕ → ℕ → rules.Task → Bool
 in-order timeout lower k =
     all-of ((1 ≤? k .C) ∷ (k .C ≤? k .D) ∷ (k .D ≤? k .T) ∷ (k .S + k .C ≤? k .D) ∷ (lower ≤? k .S) ∷ (timeout ≤? k .C) ∷ [])
 
-abbrev pub keeps-at : ℕ → ℕ → rules.Task → Bool
-keeps-at timeout lower k = small-numbers k && in-order timeout lower k
+abbrev pub keeps-numbers : ℕ → ℕ → rules.Task → Bool
+keeps-numbers timeout lower k = small-numbers k && in-order timeout lower k
 
 -- The largest C from task `from` on.
 unfoldable pub largest-from : List ℕ → ℕ → ℕ → ℕ
 largest-from longest from count = foldr max 0 (drop from (rows (λ k. getD longest k 0) count))
+
+-- The rules of the task at a place of the four arrays.
+abbrev pub keeps-at : List ℕ → List ℕ → List ℕ → List ℕ → ℕ → ℕ → ℕ → Bool
+keeps-at longest distance deadline slack timeout count i =
+    keeps-numbers timeout (largest-from longest (i + 1) count)
+    (record { C = getD longest i 0; T = getD distance i 0; D = getD deadline i 0; S = getD slack i 0 })

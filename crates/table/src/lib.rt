@@ -1,9 +1,9 @@
 // The task table and its check.
 ghost use mathlib.Core.Path.{_≡_};
-ghost use Prim.Native.Nat.{_≤_, max};
+ghost use Prim.Native.Nat.{_≤_, _<_, max};
 ghost use Rattle.rules.specs.Table.{out-of-range, check};
 ghost use Rattle.table.specs.Table.{tableOf};
-ghost use Rattle.table.specs.Check.{answerOf, small-numbers, in-order, keeps-at, largest-from};
+ghost use Rattle.table.specs.Check.{answerOf, small-numbers, in-order, keeps-numbers, keeps-at, largest-from};
 
 // "Each task has a longest execution C, least distance between releases T, deadline D and slack S": 64-bit numbers, so that an oversized one
 // is refused and never cut. Of the 64 places the first `count` are the tasks; nothing is asked of the others.
@@ -48,7 +48,7 @@ fn in_order(c: u64, t: u64, d: u64, s: u64, lower: u64, timeout: u64) -> bool
 
 // All rules of one task. The limits come first: without them a sum of two numbers might wrap.
 fn keeps_rules(c: u64, t: u64, d: u64, s: u64, lower: u64, timeout: u64) -> bool
-    ensures { λ r. ⌜ r ≡ keeps-at timeout lower (record { C = c; T = t; D = d; S = s }) ⌝ }
+    ensures { λ r. ⌜ r ≡ keeps-numbers timeout lower (record { C = c; T = t; D = d; S = s }) ⌝ }
 {
     if small_numbers(c, t, d, s) {
         return in_order(c, t, d, s, lower, timeout);
@@ -79,6 +79,30 @@ fn largest_from(longest: &[u64; 64], from: usize, count: usize) -> u64
     top
 }
 
+// All rules of the task at a place.
+fn keeps_at<'a>(
+    longest: &'a [u64; 64],
+    distance: &'a [u64; 64],
+    deadline: &'a [u64; 64],
+    slack: &'a [u64; 64],
+    timeout: u64,
+    count: usize,
+    i: usize,
+) -> bool
+    requires { ⌜ (i < count) × (count ≤ 64) ⌝ }
+    ensures { λ r. ⌜ r ≡ keeps-at (now (longest .entry)) (now (distance .entry)) (now (deadline .entry)) (now (slack .entry)) timeout count i ⌝ }
+{
+    let lower = largest_from(longest, i + 1, count);
+    keeps_rules(
+        longest[i],
+        distance[i],
+        deadline[i],
+        slack[i],
+        lower,
+        timeout,
+    )
+}
+
 // "table 1, 2": all rules at each task, in the order of the tasks.
 pub fn check_table(t: Table) -> TableCheck
     ensures { λ r. ⌜ answerOf (tableOf t) r ≡ check (tableOf t) ⌝ }
@@ -88,14 +112,14 @@ pub fn check_table(t: Table) -> TableCheck
     }
     let mut i = 0;
     while i < t.count {
-        let lower = largest_from(&t.longest, i + 1, t.count);
-        if !keeps_rules(
-            t.longest[i],
-            t.distance[i],
-            t.deadline[i],
-            t.slack[i],
-            lower,
+        if !keeps_at(
+            &t.longest,
+            &t.distance,
+            &t.deadline,
+            &t.slack,
             t.timeout,
+            t.count,
+            i,
         ) {
             return TableCheck::Broken(i);
         }

@@ -13,7 +13,7 @@ use Rattle.rules.specs.Table.{out-of-range, check}
 use Rattle.table.specs.declared.Table.{Table}
 use Rattle.table.specs.declared.TableCheck.the-variants.{Passes, OutOfRange, Broken}
 use Rattle.table.specs.Table.{row, tableOf}
-use Rattle.table.specs.Check.{answerOf, keeps-at, largest-from}
+use Rattle.table.specs.Check.{answerOf, keeps-numbers, largest-from}
 use Rattle.table.proofs.Rules.{breaks-rule, keeps-is, out-refused, rule-refused, all-kept}
 use Rattle.table.proofs.check_table.Statement.{statement}
 use Rattle.table.proofs.check_table.Tie as tie
@@ -37,10 +37,10 @@ module _ {t : Table} {i : ℕ} (v : Inv t i) where
       let e : i ≡ t .count = omega (arith, v .to) in
       all-kept t (v .in-range) (rw e at (v .so-far))
 
-  module _ (h : i < t .count) {lower : ℕ} (e : lower ≡ largest-from (t .longest) (i + 1) (t .count)) {b : Bool} (q : b ≡ keeps-at (t .timeout) lower (row t i)) where
+  module _ (h : i < t .count) {b : Bool} (q : b ≡ keeps-numbers (t .timeout) (largest-from (t .longest) (i + 1) (t .count)) (row t i)) where
     kept : breaks-rule t i ≡ not b
     unfolding breaks-rule
-    kept = ap not (keeps-is t i h ∙ ap (λ n. keeps-at (t .timeout) n (row t i)) (sym e) ∙ sym q)
+    kept = ap not (keeps-is t i h ∙ sym q)
 
     inv-broken : not b ≡ true → answerOf (tableOf t) (Broken i) ≡ check (tableOf t)
     inv-broken k = rule-refused t (v .in-range) i (lowest-found (breaks-rule t) i (v .so-far) (kept ∙ k) (t .count) h)
@@ -64,44 +64,11 @@ returns c = search refused-out
 loop-holds : tie.Need-loop-holds Inv-loop μ-loop
 loop-holds c = search inv-start
 
-add-largest-from : tie.Need-add-largest-from Inv-loop μ-loop
-add-largest-from c = search needs
-
-largest-from-requires : tie.Need-largest-from-requires Inv-loop μ-loop
-largest-from-requires c κs = search needs
-
-mul-keeps-rules : tie.Need-mul-keeps-rules Inv-loop μ-loop
-mul-keeps-rules c = search needs
-
-element-copy-out-keeps-rules : tie.Need-element-copy-out-keeps-rules Inv-loop μ-loop
-element-copy-out-keeps-rules c = search needs
-
-mul-keeps-rules-2 : tie.Need-mul-keeps-rules-2 Inv-loop μ-loop
-mul-keeps-rules-2 c = search needs
-
-element-copy-out-keeps-rules-2 : tie.Need-element-copy-out-keeps-rules-2 Inv-loop μ-loop
-element-copy-out-keeps-rules-2 c = search needs
-
-mul-keeps-rules-3 : tie.Need-mul-keeps-rules-3 Inv-loop μ-loop
-mul-keeps-rules-3 c = search needs
-
-element-copy-out-keeps-rules-3 : tie.Need-element-copy-out-keeps-rules-3 Inv-loop μ-loop
-element-copy-out-keeps-rules-3 c = search needs
-
-mul-keeps-rules-4 : tie.Need-mul-keeps-rules-4 Inv-loop μ-loop
-mul-keeps-rules-4 c = search needs
-
-element-copy-out-keeps-rules-4 : tie.Need-element-copy-out-keeps-rules-4 Inv-loop μ-loop
-element-copy-out-keeps-rules-4 c = search needs
-
-keeps-rules-requires : tie.Need-keeps-rules-requires Inv-loop μ-loop
-keeps-rules-requires c κs = search needs
+keeps-at-requires : tie.Need-keeps-at-requires Inv-loop μ-loop
+keeps-at-requires c κs = search needs
 
 returns-2 : tie.Need-returns-2 Inv-loop μ-loop
-returns-2 c =
-    let l = c .before .before .before .before .before .before in
-    let b = l .before .before .before in
-    inv-broken (b .before .loop .inv) (b .loop-test .taken) (l .largest-from .ensures) (c .before .keeps-rules .ensures) (c .if2 .taken)
+returns-2 c = search inv-broken
 
 add-i : tie.Need-add-i Inv-loop μ-loop
 add-i c = search needs
@@ -110,10 +77,7 @@ loop-less : tie.Need-loop-less Inv-loop μ-loop
 loop-less c = search needs
 
 loop-again : tie.Need-loop-again Inv-loop μ-loop
-loop-again c =
-    let l = c .before .before .before .before .before .before in
-    let b = l .before .before .before in
-    inv-next (b .before .loop .inv) (b .loop-test .taken) (l .largest-from .ensures) (c .before .keeps-rules .ensures) (c .if2 .left)
+loop-again c = search inv-next
 
 returns-3 : tie.Need-returns-3 Inv-loop μ-loop
 returns-3 c = search inv-end
@@ -127,17 +91,7 @@ check-table-spec =
     out-of-range-requires
     returns
     loop-holds
-    add-largest-from
-    largest-from-requires
-    mul-keeps-rules
-    element-copy-out-keeps-rules
-    mul-keeps-rules-2
-    element-copy-out-keeps-rules-2
-    mul-keeps-rules-3
-    element-copy-out-keeps-rules-3
-    mul-keeps-rules-4
-    element-copy-out-keeps-rules-4
-    keeps-rules-requires
+    keeps-at-requires
     returns-2
     add-i
     loop-less

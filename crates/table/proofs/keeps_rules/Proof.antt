@@ -5,7 +5,7 @@ use Prim.Native.Nat.{ℕ, _≤_}
 use borrow.Author.Tests.{leb-true}
 use Rattle.laws.proofs.Tests.{each-of}
 use Rattle.rules.specs.Table.{Task}
-use Rattle.table.specs.Check.{small-numbers, in-order, keeps-at}
+use Rattle.table.specs.Check.{small-numbers, in-order, keeps-numbers}
 use borrow.Author.Needs.{needs}
 use Rattle.table.proofs.keeps_rules.Statement.{statement}
 use Rattle.table.proofs.keeps_rules.Tie as tie
@@ -15,10 +15,10 @@ module _ (k : Task) {b : Bool} (e : b ≡ small-numbers k) where
   unfolding small-numbers
   no-wrap h = let a = each-of _ (sym e ∙ h) in (leb-true _ _ (a 0), leb-true _ _ (a 3))
 
-  rest-decides : b ≡ true → (timeout lower : ℕ) {r : Bool} → r ≡ in-order timeout lower k → r ≡ keeps-at timeout lower k
+  rest-decides : b ≡ true → (timeout lower : ℕ) {r : Bool} → r ≡ in-order timeout lower k → r ≡ keeps-numbers timeout lower k
   rest-decides h timeout lower q = rw (← e, h) q
 
-  too-large : b ≡ false → (timeout lower : ℕ) → false ≡ keeps-at timeout lower k
+  too-large : b ≡ false → (timeout lower : ℕ) → false ≡ keeps-numbers timeout lower k
   too-large h timeout lower = rw (← e, h)
 
 small-numbers-requires : tie.Need-small-numbers-requires
