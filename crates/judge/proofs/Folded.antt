@@ -18,9 +18,9 @@ use Rattle.judge.specs.declared.passes.Back.{Back}
 use Rattle.judge.specs.Classed.{no-class, class-in, in-front, front-step, rear-step, start-step, is-back, back-of}
 
 module _ {A B : Type 0} where
-  pub map-classes : {C : Type 0} (f : A → B) (g : B → C) (l : List A) → map g (map f l) ≡ map (λ x. g (f x)) l
-  map-classes f g [] = refl
-  map-classes {C} f g (x ∷ l) = ap (λ (r : List C). g (f x) ∷ r) (map-classes f g l)
+  pub map-map : {C : Type 0} (f : A → B) (g : B → C) (l : List A) → map g (map f l) ≡ map (λ x. g (f x)) l
+  map-map f g [] = refl
+  map-map {C} f g (x ∷ l) = ap (λ (r : List C). g (f x) ∷ r) (map-map f g l)
 
   number-map : (f : A → B) (g : B → Bool) (l : List A) → number-of g (map f l) ≡ number-of (λ x. g (f x)) l
   unfolding number-of
@@ -44,7 +44,7 @@ module _ (tab : Table) (c : Common) (r : ℕ) where
 
   module _ (es : List (Option Report)) where
     pub classes-same : map class-in (map classed-as es) ≡ map (class tab c r) es
-    classes-same = map-classes classed-as class-in es
+    classes-same = map-map classed-as class-in es
 
     front-same : (x : Option Report) (o : ℕ) (t : Bool)
         → max (if t then (numbers x) .progress + (numbers x) .run else 0) o ≡ (if t then max ((numbers x) .progress + (numbers x) .run) o else o)

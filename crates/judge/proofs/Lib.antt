@@ -1,3 +1,4 @@
 -- What the proofs of this crate share.
 pub mod Lent
 pub mod Folded
+pub mod Rounds

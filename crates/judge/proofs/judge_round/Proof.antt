@@ -1,3 +1,6 @@
+-- `judge::judge_round` meets its contract: what the passes give is what the rules give. Assumes nothing.
+use Rattle.laws.proofs.Lists.{length-of-map}
+use Rattle.judge.proofs.Rounds.{few, ready-judgeable, length-fits, judged-round}
 use Rattle.judge.proofs.judge_round.Statement.{statement}
 use Rattle.judge.proofs.judge_round.Tie as tie
 use Rattle.judge.proofs.judge_round.Reads as reads
@@ -8,33 +11,33 @@ use Rattle.judge.proofs.passes.classes_of.Reads as classes-of-reads
 use Rattle.judge.proofs.passes.has_majority.Reads as has-majority-reads
 use Rattle.judge.proofs.passes.new_offset.Reads as new-offset-reads
 
--- src/lib.rt:41:9
 judge-entries-requires : tie.Need-judge-entries-requires
-judge-entries-requires c κs = ?
+judge-entries-requires c κs = (ready-judgeable (c .before .before .before .before .before .before .before .pre), few (c .before .before .before .before .before .before .before .pre))
 
--- src/lib.rt:42:9
 classes-of-requires : tie.Need-classes-of-requires
-classes-of-requires c κs = ?
+classes-of-requires c κs = few (c .before .before .before .before .before .before .before .before .pre)
 
--- src/lib.rt:43:18
 add-length : tie.Need-add-length
-add-length c = ?
+add-length c = length-fits (c .before .before .before .before .before .before .before .before .before .pre)
 
--- src/lib.rt:44:9
 back-runner-requires : tie.Need-back-runner-requires
-back-runner-requires c κs = ?
+back-runner-requires c κs = few (c .before .before .before .before .before .before .before .before .before .pre)
 
--- src/lib.rt:45:9
 has-majority-requires : tie.Need-has-majority-requires
-has-majority-requires c κs = ?
+has-majority-requires c κs = few (c .before .before .before .before .before .before .before .before .before .before .pre)
 
--- src/lib.rt:46:9
 new-offset-requires : tie.Need-new-offset-requires
-new-offset-requires c κs = ?
+new-offset-requires c κs = few (c .before .before .before .before .before .before .before .before .before .before .before .pre)
 
--- src/lib.rt:26:1
 returns : tie.Need-returns
-returns c = ?
+returns c =
+    judged-round (c .before .before .before .before .before .before .before .before .before .before .before .before .pre)
+    (search (length-of-map, c .before .before .before .before .before .before .before .before .before .before .before .before .good .1 .1 .0))
+    (c .before .before .before .before .judge-entries .ensures)
+    (c .before .before .before .classes-of .ensures)
+    (c .before .before .back-runner .ensures)
+    (c .before .has-majority .ensures)
+    (c .new-offset .ensures)
 
 pub judge-round-spec : {M : Type 1} → statement M
 judge-round-spec =
