@@ -85,24 +85,28 @@ module _ {t : Table} {c : Common} (k : Checked t) (g : Given t c) (r : ℕ) wher
     unfolding late late-at
     late-same = ap₂ _||_ (ap (λ n. n <? e .completed) (projection-raw g (e .progress) (omega arith))) (next-same (e .progress <? c .offset) refl)
 
-  pub class-same : (x : Option Report) → class-at (t .longest) (t .slack) (c .tasks) (c .earliest) (before t c r) x ≡ class (tableOf t) (commonOf c) r x
+  from-before : (x : Option Report) → class-at (t .longest) (t .slack) (c .tasks) (c .earliest) (before t c r) x ≡ class (tableOf t) (commonOf c) r x
   unfolding class class-at fits
-  class-same none = refl
-  class-same (some e) =
+  from-before none = refl
+  from-before (some e) =
       sym
       (fits-same _ (malformed-at (before t c r) e) (e .progress <? c .base) _ _ _ _
       (malformed-same e)
       (λ f. over-same e (sum-within (before t c r) e f))
       (λ f. late-same e (sum-within (before t c r) e f)))
 
-  -- what judging asks, of a checked table and a record that was given back, at a time that passes refusal 3
-  pub judgeable : r < 2 ^ 48 → Judgeable (t .longest) (t .slack) (c .tasks) (c .earliest) (before t c r)
-  judgeable h = record {
-    base = record-of.numbers g .base;
-    offset = record-of.numbers g .offset;
-    length-below = omega (arith, record-of.numbers g .length-below);
-    summable = summable k g (c .count) (omega arith);
-    boundable = boundable k g r (omega arith);
-    time = h;
-    timeout = omega (arith, ranges k .timeout);
-  }
+  module _ {b : Before} (e : b ≡ before t c r) where
+    pub class-same : (x : Option Report) → class-at (t .longest) (t .slack) (c .tasks) (c .earliest) b x ≡ class (tableOf t) (commonOf c) r x
+    class-same x = ap (λ (b : Before). class-at (t .longest) (t .slack) (c .tasks) (c .earliest) b x) e ∙ from-before x
+
+    -- what judging asks, of a checked table and a record that was given back, at a time that passes refusal 3
+    pub judgeable : r < 2 ^ 48 → Judgeable (t .longest) (t .slack) (c .tasks) (c .earliest) b
+    judgeable h = rw e (record {
+      base = record-of.numbers g .base;
+      offset = record-of.numbers g .offset;
+      length-below = omega (arith, record-of.numbers g .length-below);
+      summable = summable k g (c .count) (omega arith);
+      boundable = boundable k g r (omega arith);
+      time = h;
+      timeout = omega (arith, ranges k .timeout);
+    })

@@ -2,3 +2,4 @@
 pub mod Lent
 pub mod Folded
 pub mod Rounds
+pub mod Settled

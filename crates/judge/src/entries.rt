@@ -53,7 +53,7 @@ fn start_of(b: Before, e: Report) -> u64
     e.completed
 }
 
-fn judge_entry<'a>(
+fn with_class<'a>(
     longest: &'a [u64; 64],
     slack: &'a [u64; 64],
     tasks: &'a [u8; 256],
@@ -109,7 +109,7 @@ pub fn judge_entries<'a>(
     while i < n {
         let place = entries[i];
         let entry = place.entry;
-        let x = judge_entry(longest, slack, tasks, earliest, b, entry);
+        let x = with_class(longest, slack, tasks, earliest, b, entry);
         all[i] = x;
         i += 1;
     }

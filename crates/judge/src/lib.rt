@@ -5,13 +5,17 @@ mod passes;
 
 use class::Before;
 use common::Common;
+use round::Entry;
 use round::Round;
 use table::Table;
 ghost use mathlib.Core.Path.{_≡_};
-ghost use Rattle.table.specs.Table.{tableOf};
-ghost use Rattle.common.specs.Common.{commonOf};
-ghost use Rattle.round.specs.Round.{roundOf};
+ghost use Prim.Native.Nat.{_^_, _<_};
+ghost use Rattle.rules.specs.Judge.{class};
+ghost use Rattle.table.specs.Table.{tableOf, Checked};
+ghost use Rattle.common.specs.Common.{commonOf, Given};
+ghost use Rattle.round.specs.Round.{entryOf, roundOf};
 ghost use Rattle.judge.specs.Judgement.{judgement, Ready};
+ghost use Rattle.judge.specs.Lent.{before};
 
 // The reply's classes, back-runner (15 if none) and notice, and the new B, W and O.
 pub struct Judgement {
@@ -23,6 +27,31 @@ pub struct Judgement {
     pub offset: u64,
 }
 
+fn before_round(t: Table, c: Common, time: u64) -> Before
+    ensures { λ r. ⌜ r ≡ before t c time ⌝ }
+{
+    Before {
+        base: c.base,
+        start: c.start,
+        offset: c.offset,
+        kept: c.count,
+        tasks: t.count,
+        time,
+        timeout: t.timeout,
+    }
+}
+
+// "Each entry gets the first class that fits": one entry of a round at `time`.
+pub fn judge_entry(t: Table, c: Common, time: u64, entry: Entry) -> u8
+    requires { ⌜ Checked t ⌝ }
+    requires { ⌜ Given t c ⌝ }
+    requires { ⌜ time < 2 ^ 48 ⌝ }
+    ensures { λ r. ⌜ r ≡ class (tableOf t) (commonOf c) time (entryOf entry) ⌝ }
+{
+    let b = before_round(t, c, time);
+    class::class_of(&t.longest, &t.slack, &c.tasks, &c.earliest, b, entry)
+}
+
 // A round judged by the values before it: of the records nothing is changed.
 pub fn judge_round(t: Table, c: Common, q: Round) -> Judgement
     requires { ⌜ Ready t c q ⌝ }
@@ -30,15 +59,7 @@ pub fn judge_round(t: Table, c: Common, q: Round) -> Judgement
 {
     let n = q.entered;
     let entries = q.entries;
-    let b = Before {
-        base: c.base,
-        start: c.start,
-        offset: c.offset,
-        kept: c.count,
-        tasks: t.count,
-        time: q.time,
-        timeout: t.timeout,
-    };
+    let b = before_round(t, c, q.time);
     let all = entries::judge_entries(&t.longest, &t.slack, &c.tasks, &c.earliest, b, entries, n);
     let classes = passes::classes_of(all, n);
     let length = c.base + c.count as u64;

@@ -1,38 +1,44 @@
 -- `judge::judge_round` meets its contract: what the passes give is what the rules give. Assumes nothing.
 use Rattle.laws.proofs.Lists.{length-of-map}
 use Rattle.judge.proofs.Rounds.{few, ready-judgeable, length-fits, judged-round}
+use borrow.Author.Needs.{needs}
 use Rattle.judge.proofs.judge_round.Statement.{statement}
 use Rattle.judge.proofs.judge_round.Tie as tie
 use Rattle.judge.proofs.judge_round.Reads as reads
 use Rattle.judge.proofs.judge_round.Lts as lts
+use Rattle.judge.proofs.before_round.Reads as before-round-reads
 use Rattle.judge.proofs.entries.judge_entries.Reads as judge-entries-reads
 use Rattle.judge.proofs.passes.back_runner.Reads as back-runner-reads
 use Rattle.judge.proofs.passes.classes_of.Reads as classes-of-reads
 use Rattle.judge.proofs.passes.has_majority.Reads as has-majority-reads
 use Rattle.judge.proofs.passes.new_offset.Reads as new-offset-reads
 
+before-round-requires : tie.Need-before-round-requires
+before-round-requires c κs = search needs
+
 judge-entries-requires : tie.Need-judge-entries-requires
-judge-entries-requires c κs = (ready-judgeable (c .before .before .before .before .before .before .before .pre), few (c .before .before .before .before .before .before .before .pre))
+judge-entries-requires c κs = (ready-judgeable (c .before .before .before .before .before .before .before .before .pre) (c .before .before .before .before .before .before .before-round .ensures), few (c .before .before .before .before .before .before .before .before .pre))
 
 classes-of-requires : tie.Need-classes-of-requires
-classes-of-requires c κs = few (c .before .before .before .before .before .before .before .before .pre)
+classes-of-requires c κs = few (c .before .before .before .before .before .before .before .before .before .pre)
 
 add-length : tie.Need-add-length
-add-length c = length-fits (c .before .before .before .before .before .before .before .before .before .pre)
+add-length c = length-fits (c .before .before .before .before .before .before .before .before .before .before .pre)
 
 back-runner-requires : tie.Need-back-runner-requires
-back-runner-requires c κs = few (c .before .before .before .before .before .before .before .before .before .pre)
+back-runner-requires c κs = few (c .before .before .before .before .before .before .before .before .before .before .pre)
 
 has-majority-requires : tie.Need-has-majority-requires
-has-majority-requires c κs = few (c .before .before .before .before .before .before .before .before .before .before .pre)
+has-majority-requires c κs = few (c .before .before .before .before .before .before .before .before .before .before .before .pre)
 
 new-offset-requires : tie.Need-new-offset-requires
-new-offset-requires c κs = few (c .before .before .before .before .before .before .before .before .before .before .before .pre)
+new-offset-requires c κs = few (c .before .before .before .before .before .before .before .before .before .before .before .before .pre)
 
 returns : tie.Need-returns
 returns c =
-    judged-round (c .before .before .before .before .before .before .before .before .before .before .before .before .pre)
-    (search (length-of-map, c .before .before .before .before .before .before .before .before .before .before .before .before .good .1 .1 .0))
+    judged-round (c .before .before .before .before .before .before .before .before .before .before .before .before .before .pre)
+    (c .before .before .before .before .before .before .before .before .before .before .before .before-round .ensures)
+    (search (length-of-map, c .before .before .before .before .before .before .before .before .before .before .before .before .before .good .1 .1 .0))
     (c .before .before .before .before .judge-entries .ensures)
     (c .before .before .before .classes-of .ensures)
     (c .before .before .back-runner .ensures)
@@ -43,6 +49,7 @@ pub judge-round-spec : {M : Type 1} → statement M
 judge-round-spec =
     tie.close
     (tie.spec
+    before-round-requires
     judge-entries-requires
     classes-of-requires
     add-length

@@ -12,7 +12,7 @@ use Rattle.judge.proofs.entries.judge_entries.Statement.{statement}
 use Rattle.judge.proofs.entries.judge_entries.Tie as tie
 use Rattle.judge.proofs.entries.judge_entries.Reads as reads
 use Rattle.judge.proofs.entries.judge_entries.Lts as lts
-use Rattle.judge.proofs.entries.judge_entry.Reads as judge-entry-reads
+use Rattle.judge.proofs.entries.with_class.Reads as with-class-reads
 use Rattle.judge.proofs.entries.none_classed.Reads as none-classed-reads
 
 abbrev Inv-loop : tie.InvT-loop
@@ -34,8 +34,8 @@ mul-place c = search needs
 array-copy-out-place : tie.Need-array-copy-out-place Inv-loop μ-loop
 array-copy-out-place c = search needs
 
-judge-entry-requires : tie.Need-judge-entry-requires Inv-loop μ-loop
-judge-entry-requires c κs = search needs
+with-class-requires : tie.Need-with-class-requires Inv-loop μ-loop
+with-class-requires c κs = search needs
 
 mul-all : tie.Need-mul-all Inv-loop μ-loop
 mul-all c = search needs
@@ -65,7 +65,7 @@ judge-entries-spec =
     loop-holds
     mul-place
     array-copy-out-place
-    judge-entry-requires
+    with-class-requires
     mul-all
     array-set-from-all
     add-i

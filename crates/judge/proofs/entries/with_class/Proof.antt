@@ -1,4 +1,4 @@
--- `entries::judge_entry` meets its contract, field by field. Assumes nothing.
+-- `entries::with_class` meets its contract, field by field. Assumes nothing.
 use mathlib.Core.Path.{_≡_, refl, sym, ap, ap₂, _∙_}
 use mathlib.Core.Bool.{true}
 use mathlib.Core.List.{List}
@@ -15,10 +15,10 @@ use Rattle.judge.specs.Classed.{in-front}
 use Rattle.judge.specs.Lent.{class-at, start-at, classed-at, Judgeable}
 use Rattle.judge.proofs.Lent.{counted-within}
 use borrow.Author.Needs.{needs}
-use Rattle.judge.proofs.entries.judge_entry.Statement.{statement}
-use Rattle.judge.proofs.entries.judge_entry.Tie as tie
-use Rattle.judge.proofs.entries.judge_entry.Reads as reads
-use Rattle.judge.proofs.entries.judge_entry.Lts as lts
+use Rattle.judge.proofs.entries.with_class.Statement.{statement}
+use Rattle.judge.proofs.entries.with_class.Tie as tie
+use Rattle.judge.proofs.entries.with_class.Reads as reads
+use Rattle.judge.proofs.entries.with_class.Lts as lts
 use Rattle.judge.proofs.class.class_of.Reads as class-of-reads
 use Rattle.judge.proofs.entries.front_of.Reads as front-of-reads
 use Rattle.judge.proofs.entries.numbers_of.Reads as numbers-of-reads
@@ -57,7 +57,7 @@ start-of-requires c κs = search needs
 returns : tie.Need-returns
 returns c = search made
 
-pub judge-entry-spec : {M : Type 1} → statement M
-judge-entry-spec =
+pub with-class-spec : {M : Type 1} → statement M
+with-class-spec =
     tie.close
     (tie.spec class-of-requires numbers-of-requires front-of-requires start-of-requires returns)
