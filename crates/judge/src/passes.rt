@@ -7,7 +7,7 @@ ghost use Rattle.laws.specs.Tests.{_≤?_};
 ghost use Rattle.laws.specs.Search.{number-of};
 ghost use Rattle.laws.specs.Lists.{pad};
 ghost use Rattle.laws.proofs.Folds.{bits, with-bit};
-ghost use Rattle.judge.specs.Classed.{class-in, in-front, front-step, rear-step, start-step, is-back, back-of};
+ghost use Rattle.judge.specs.Classed.{class-in, in-front, front-step, rear-step, start-step, is-rear, is-back, back-of};
 
 // An entry with its class: what the passes over the entries of a round read of it.
 pub struct Classed {
@@ -63,10 +63,10 @@ pub fn new_offset(all: [Classed; 15], n: usize, offset: u64) -> u64
 fn nearer(x: Classed, least: u64) -> u64
     ensures { λ r. ⌜ r ≡ rear-step x least ⌝ }
 {
-    if x.class == 0 {
-        return smaller(x.progress, least);
+    if x.class != 0 {
+        return least;
     }
-    least
+    smaller(x.progress, least)
 }
 
 // "Back-runner: among class 0 the least progress". The length is an upper bound of it.
@@ -84,13 +84,21 @@ fn least_progress(all: [Classed; 15], n: usize, length: u64) -> u64
     least
 }
 
+// Class 0 with the least progress.
+fn at_rear(x: Classed, least: u64) -> bool
+    ensures { λ r. ⌜ r ≡ is-rear least x ⌝ }
+{
+    if x.class == 0 {
+        return x.progress == least;
+    }
+    false
+}
+
 fn later(x: Classed, least: u64, latest: u64) -> u64
     ensures { λ r. ⌜ r ≡ start-step least x latest ⌝ }
 {
-    if x.class == 0 {
-        if x.progress == least {
-            return larger(x.start, latest);
-        }
+    if at_rear(x, least) {
+        return larger(x.start, latest);
     }
     latest
 }
@@ -113,10 +121,8 @@ fn largest_start(all: [Classed; 15], n: usize, least: u64) -> u64
 fn reaches(x: Classed, least: u64, latest: u64) -> bool
     ensures { λ r. ⌜ r ≡ is-back least latest x ⌝ }
 {
-    if x.class == 0 {
-        if x.progress == least {
-            return x.start == latest;
-        }
+    if at_rear(x, least) {
+        return x.start == latest;
     }
     false
 }

@@ -1,23 +1,35 @@
 -- `passes::later` meets its contract. Assumes nothing.
-use borrow.Author.Tests.{eq-eqb, ne-eqb}
+use mathlib.Core.Path.{_≡_, sym, _∙_}
+use mathlib.Core.Bool.{Bool, true, false}
+use Prim.Native.Nat.{ℕ, max}
 use borrow.Author.Needs.{needs}
+use Rattle.judge.specs.declared.passes.Classed.{Classed}
+use Rattle.judge.specs.Classed.{is-rear, start-step}
 use Rattle.judge.proofs.passes.later.Statement.{statement}
 use Rattle.judge.proofs.passes.later.Tie as tie
 use Rattle.judge.proofs.passes.later.Reads as reads
 use Rattle.judge.proofs.passes.later.Lts as lts
+use Rattle.judge.proofs.passes.at_rear.Reads as at-rear-reads
 use Rattle.judge.proofs.passes.larger.Reads as larger-reads
+
+module _ (x : Classed) (least latest : ℕ) {t : Bool} (e : t ≡ is-rear least x) where
+  rear : t ≡ true → {r : ℕ} → r ≡ max (x .start) latest → r ≡ start-step least x latest
+  rear h g = rw (← e, h) g
+
+  other : t ≡ false → latest ≡ start-step least x latest
+  other h = rw (← e, h)
+
+at-rear-requires : tie.Need-at-rear-requires
+at-rear-requires c κs = search needs
 
 larger-requires : tie.Need-larger-requires
 larger-requires c κs = search needs
 
 returns : tie.Need-returns
-returns c = simp (eq-eqb _ _ (c .before .if2 .taken), eq-eqb _ _ (c .before .before .before .if1 .taken)) (c .larger .ensures)
+returns c = search rear
 
 returns-2 : tie.Need-returns-2
-returns-2 c = simp (ne-eqb _ _ (c .if2 .left), eq-eqb _ _ (c .before .before .if1 .taken))
-
-returns-3 : tie.Need-returns-3
-returns-3 c = simp (ne-eqb _ _ (c .if1 .left))
+returns-2 c = search other
 
 pub later-spec : {M : Type 1} → statement M
-later-spec = tie.close (tie.spec larger-requires returns returns-2 returns-3)
+later-spec = tie.close (tie.spec at-rear-requires larger-requires returns returns-2)

@@ -1,23 +1,20 @@
 -- `passes::nearer` meets its contract. Assumes nothing.
-use borrow.Author.Tests.{eq-eqb, ne-eqb}
 use borrow.Author.Needs.{needs}
+use borrow.Author.Tests.{eq-eqb, ne-eqb}
 use Rattle.judge.proofs.passes.nearer.Statement.{statement}
 use Rattle.judge.proofs.passes.nearer.Tie as tie
 use Rattle.judge.proofs.passes.nearer.Reads as reads
 use Rattle.judge.proofs.passes.nearer.Lts as lts
 use Rattle.judge.proofs.passes.smaller.Reads as smaller-reads
 
--- src/lib.rt:74:9
+returns : tie.Need-returns
+returns c = simp (ne-eqb _ _ (c .if1 .taken))
+
 smaller-requires : tie.Need-smaller-requires
 smaller-requires c κs = search needs
 
--- src/lib.rt:74:9
-returns : tie.Need-returns
-returns c = simp (eq-eqb _ _ (c .before .if1 .taken)) (c .smaller .ensures)
-
--- src/lib.rt:70:1
 returns-2 : tie.Need-returns-2
-returns-2 c = simp (ne-eqb _ _ (c .if1 .left))
+returns-2 c = simp (eq-eqb _ _ (c .before .if1 .left)) (c .smaller .ensures)
 
 pub nearer-spec : {M : Type 1} → statement M
-nearer-spec = tie.close (tie.spec smaller-requires returns returns-2)
+nearer-spec = tie.close (tie.spec returns smaller-requires returns-2)

@@ -1,18 +1,32 @@
 -- `passes::reaches` meets its contract. Assumes nothing.
-use borrow.Author.Tests.{eq-eqb, ne-eqb}
+use mathlib.Core.Path.{_≡_, sym, _∙_}
+use mathlib.Core.Bool.{Bool, true, false}
+use Prim.Native.Nat.{ℕ}
+use borrow.Author.Needs.{needs}
+use Rattle.laws.specs.Tests.{_=?_}
+use Rattle.judge.specs.declared.passes.Classed.{Classed}
+use Rattle.judge.specs.Classed.{is-rear, is-back}
 use Rattle.judge.proofs.passes.reaches.Statement.{statement}
 use Rattle.judge.proofs.passes.reaches.Tie as tie
 use Rattle.judge.proofs.passes.reaches.Reads as reads
 use Rattle.judge.proofs.passes.reaches.Lts as lts
+use Rattle.judge.proofs.passes.at_rear.Reads as at-rear-reads
+
+module _ (x : Classed) (least latest : ℕ) {t : Bool} (e : t ≡ is-rear least x) where
+  rear : t ≡ true → (x .start =? latest) ≡ is-back least latest x
+  rear h = rw (← e, h)
+
+  other : t ≡ false → false ≡ is-back least latest x
+  other h = rw (← e, h)
+
+at-rear-requires : tie.Need-at-rear-requires
+at-rear-requires c κs = search needs
 
 returns : tie.Need-returns
-returns c = simp (eq-eqb _ _ (c .before .if2 .taken), eq-eqb _ _ (c .before .before .before .if1 .taken))
+returns c = search rear
 
 returns-2 : tie.Need-returns-2
-returns-2 c = simp (ne-eqb _ _ (c .if2 .left), eq-eqb _ _ (c .before .before .if1 .taken))
-
-returns-3 : tie.Need-returns-3
-returns-3 c = simp (ne-eqb _ _ (c .if1 .left))
+returns-2 c = search other
 
 pub reaches-spec : {M : Type 1} → statement M
-reaches-spec = tie.close (tie.spec returns returns-2 returns-3)
+reaches-spec = tie.close (tie.spec at-rear-requires returns returns-2)

@@ -1,0 +1,15 @@
+-- `passes::at_rear` meets its contract. Assumes nothing.
+use borrow.Author.Tests.{eq-eqb, ne-eqb}
+use Rattle.judge.proofs.passes.at_rear.Statement.{statement}
+use Rattle.judge.proofs.passes.at_rear.Tie as tie
+use Rattle.judge.proofs.passes.at_rear.Reads as reads
+use Rattle.judge.proofs.passes.at_rear.Lts as lts
+
+returns : tie.Need-returns
+returns c = simp (eq-eqb _ _ (c .before .if1 .taken))
+
+returns-2 : tie.Need-returns-2
+returns-2 c = simp (ne-eqb _ _ (c .if1 .left))
+
+pub at-rear-spec : {M : Type 1} → statement M
+at-rear-spec = tie.close (tie.spec returns returns-2)
