@@ -1,3 +1,4 @@
--- The laws that the proofs of the functions share.
-pub mod Releases
-pub mod Order
+-- From the steps of a close to the rules' close, and what follows from its contract.
+pub mod Applied
+pub mod Closed
+pub mod Replies

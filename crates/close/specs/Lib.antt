@@ -1,4 +1,2 @@
-pub mod Listing
-pub mod Spacing
-pub mod Insertion
 pub mod Trial
+pub mod Close

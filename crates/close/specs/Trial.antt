@@ -6,9 +6,9 @@ use Rattle.rules.specs.Table.{Table}
 use Rattle.rules.specs.Common.{Common}
 use Rattle.rules.specs.Judge.{Round}
 use Rattle.rules.specs.Close.{too-late, too-soon, ill-formed}
-use Rattle.close.specs.declared.listing.Standing.the-variants.{Refused}
-use Rattle.close.specs.declared.spacing.Spaced.{Spaced}
-use Rattle.close.specs.Spacing.{spacing}
+use Rattle.release.specs.declared.listing.Standing.the-variants.{Refused}
+use Rattle.release.specs.declared.spacing.Spaced.{Spaced}
+use Rattle.release.specs.Spacing.{spacing}
 
 abbrev pub stopped : ℕ → List ℕ → Spaced
 stopped n E = record { standing = Refused n; earliest = E }

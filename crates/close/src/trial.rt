@@ -5,11 +5,11 @@ ghost use Rattle.table.specs.Table.{tableOf, Checked};
 ghost use Rattle.common.specs.Common.{commonOf, Given};
 ghost use Rattle.round.specs.Round.{roundOf};
 ghost use Rattle.close.specs.Trial.{trial};
-use crate::listing::Standing;
-use crate::listing::well_formed;
-use crate::spacing::Spaced;
-use crate::spacing::all_spaced;
 use common::Common;
+use release::listing::Standing;
+use release::listing::well_formed;
+use release::spacing::Spaced;
+use release::spacing::all_spaced;
 use round::Round;
 use table::Table;
 
