@@ -1,7 +1,7 @@
 //! Runs a session program on bytes. A program that neither ends nor stops
 //! printing is stopped, and that is an answer too.
 
-use std::io::{Read, Write};
+use std::io::{self, Read, Write};
 use std::path::Path;
 use std::process::{Child, ChildStdin, Command, Stdio};
 use std::sync::mpsc;
@@ -28,18 +28,14 @@ impl Answer {
 
 /// Runs the program on a session. `piece` is how many bytes it is handed at a
 /// time: a pipe may give a reader less than it asked for. It is stopped where
-/// it prints more than `most` bytes.
-pub fn run(program: &Path, session: &[u8], piece: usize, most: u64) -> Answer {
-    let mut child = Command::new(program)
-        .stdin(Stdio::piped())
-        .stdout(Stdio::piped())
-        .stderr(Stdio::null())
-        .spawn()
-        .unwrap_or_else(|error| panic!("{} cannot be started: {error}", program.display()));
+/// it prints more than `most` bytes. An error is a program that does not start.
+pub fn run(program: &Path, session: &[u8], piece: usize, most: u64) -> io::Result<Answer> {
+    let mut child =
+        Command::new(program).stdin(Stdio::piped()).stdout(Stdio::piped()).stderr(Stdio::null()).spawn()?;
     let input = child.stdin.take().expect("a piped input");
     let output = child.stdout.take().expect("a piped output");
     let (sender, receiver) = mpsc::channel();
-    thread::scope(|threads| {
+    Ok(thread::scope(|threads| {
         threads.spawn(move || feed(input, session, piece));
         threads.spawn(move || {
             let mut printed = Vec::new();
@@ -53,7 +49,7 @@ pub fn run(program: &Path, session: &[u8], piece: usize, most: u64) -> Answer {
             Ok(printed) => Answer { printed, trouble: ended(&mut child) },
             Err(_) => stopped(&mut child, Vec::new(), "did not end"),
         }
-    })
+    }))
 }
 
 /// A program may end before it has read everything, so a closed pipe is no fault.

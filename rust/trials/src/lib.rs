@@ -15,3 +15,4 @@ pub mod sessions;
 pub mod shrink;
 pub mod tables;
 pub mod trial;
+pub mod wrong;

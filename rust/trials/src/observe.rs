@@ -12,9 +12,9 @@ use reference::session::read_table;
 use reference::written::{read_number, read_record, Bytes, Fault};
 use reference::{close, Common, Refusal, Table};
 
-/// Everything that a trial has to reach. Two reasons for class 4 and class 5
-/// exclude each other by the table's slack rule, so no edge between them stands
-/// here; back-runner and majority are not printed by a session.
+/// Everything that a trial has to reach. A report is never both over bound and
+/// late (`alike/class-5-before-4.edit` says why), so no edge between these two
+/// stands here; back-runner and majority are not printed by a session.
 pub const WANTED: &[&str] = &[
     "refusal 1: no node",
     "refusal 1: more than 15 nodes",

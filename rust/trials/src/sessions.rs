@@ -35,7 +35,7 @@ const KINDS: &[(u64, Kind)] = &[
 /// The session with this number under this seed.
 pub fn session(seed: u64, number: u64) -> Vec<u8> {
     let mut mixed = Random::new(seed.wrapping_mul(0x0100_0000_01B3).wrapping_add(number));
-    let random = &mut Random::new(mixed.next());
+    let random = &mut Random::new(mixed.number());
     let kind = random.weighted(KINDS);
     match kind {
         Kind::Noise => noise(random),
@@ -170,7 +170,7 @@ fn damaged(random: &mut Random, mut bytes: Vec<u8>) -> Vec<u8> {
         match random.below(4) {
             0 | 1 => bytes[place] ^= 1 << random.below(8),
             2 => drop(bytes.remove(place)),
-            _ => bytes.insert(place, random.next() as u8),
+            _ => bytes.insert(place, random.number() as u8),
         }
         if bytes.is_empty() {
             break;
@@ -180,5 +180,5 @@ fn damaged(random: &mut Random, mut bytes: Vec<u8>) -> Vec<u8> {
 }
 
 fn noise(random: &mut Random) -> Vec<u8> {
-    (0..random.below(40)).map(|_| random.next() as u8).collect()
+    (0..random.below(40)).map(|_| random.number() as u8).collect()
 }

@@ -1,6 +1,7 @@
 //! The comparison itself: session after session through the reference and
 //! through the program under trial, until they differ or enough has been run.
 
+use std::io;
 use std::path::Path;
 use std::time::{Duration, Instant};
 
@@ -22,12 +23,7 @@ pub struct Limits {
 pub struct Difference {
     /// The number of the session under the seed, from 0.
     pub number: u64,
-    /// The session as it was generated, and made smaller.
     pub session: Vec<u8>,
-    pub smaller: Vec<u8>,
-    /// What the smaller one should print, and what the program did with it.
-    pub expected: Vec<u8>,
-    pub answer: Answer,
 }
 
 pub struct Outcome {
@@ -37,26 +33,46 @@ pub struct Outcome {
 }
 
 /// Runs sessions 0, 1, 2 and on of a seed through the program.
-pub fn trial(program: &Path, seed: u64, limits: Limits) -> Outcome {
+pub fn trial(program: &Path, seed: u64, limits: Limits) -> io::Result<Outcome> {
     let begun = Instant::now();
     let mut reached = Reached::default();
     let in_time = || limits.time.is_none_or(|time| begun.elapsed() < time);
     let mut number = 0;
     while number < limits.sessions && in_time() {
-        let bytes = session(seed, number);
-        reached.observe(&bytes);
-        if !answer(program, &bytes, number).agrees(&run_bytes(&bytes)) {
-            let difference = Some(difference(program, number, bytes));
-            return Outcome { sessions: number + 1, reached, difference };
+        let session = session(seed, number);
+        reached.observe(&session);
+        if !answer(program, &session, number)?.agrees(&run_bytes(&session)) {
+            let difference = Some(Difference { number, session });
+            return Ok(Outcome { sessions: number + 1, reached, difference });
         }
         number += 1;
     }
-    Outcome { sessions: number, reached, difference: None }
+    Ok(Outcome { sessions: number, reached, difference: None })
+}
+
+/// A difference on a smaller session: what that should print, and what the
+/// program did with it.
+pub struct Smaller {
+    pub session: Vec<u8>,
+    pub expected: Vec<u8>,
+    pub answer: Answer,
+}
+
+impl Difference {
+    pub fn smaller(&self, program: &Path) -> io::Result<Smaller> {
+        let agrees = |session: &[u8]| -> io::Result<bool> {
+            Ok(answer(program, session, self.number)?.agrees(&run_bytes(session)))
+        };
+        let session = shrink(&self.session, |session| !agrees(session).unwrap_or(true));
+        let expected = run_bytes(&session);
+        let answer = answer(program, &session, self.number)?;
+        Ok(Smaller { session, expected, answer })
+    }
 }
 
 /// Every eighth session comes in small pieces, the others at once.
-fn answer(program: &Path, session: &[u8], number: u64) -> Answer {
-    let piece = if number % 8 == 0 { 1 + (number as usize / 8) % 23 } else { session.len().max(1) };
+fn answer(program: &Path, session: &[u8], number: u64) -> io::Result<Answer> {
+    let piece = if number.is_multiple_of(8) { 1 + (number as usize / 8) % 23 } else { session.len().max(1) };
     run(program, session, piece, most(session))
 }
 
@@ -64,11 +80,4 @@ fn answer(program: &Path, session: &[u8], number: u64) -> Answer {
 /// bytes and costs at least three, the order's at most 256 jobs.
 fn most(session: &[u8]) -> u64 {
     (session.len() as u64 + 256) * 100
-}
-
-fn difference(program: &Path, number: u64, session: Vec<u8>) -> Difference {
-    let smaller = shrink(&session, |smaller| !answer(program, smaller, number).agrees(&run_bytes(smaller)));
-    let expected = run_bytes(&smaller);
-    let answer = answer(program, &smaller, number);
-    Difference { number, session, smaller, expected, answer }
 }

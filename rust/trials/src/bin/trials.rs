@@ -7,7 +7,7 @@ use std::path::{Path, PathBuf};
 use std::process::ExitCode;
 use std::time::Duration;
 
-use trials::trial::{trial, Difference, Limits, Outcome};
+use trials::trial::{trial, Difference, Limits, Outcome, Smaller};
 
 const HELP: &str = "\
 trials --under PROGRAM [--seed N] [--sessions N] [--seconds N] [--save DIR]
@@ -64,19 +64,20 @@ fn asked(mut arguments: impl Iterator<Item = String>) -> Result<Asked, String> {
         }
     }
     let under = under.ok_or("--under PROGRAM is missing; --help says more")?;
-    if !under.is_file() {
-        return Err(format!("{} is no program", under.display()));
-    }
     let sessions = sessions.unwrap_or(if seconds.is_some() { u64::MAX } else { SESSIONS });
     let limits = Limits { sessions, time: seconds.map(Duration::from_secs) };
     Ok(Asked { under, seed, limits, save })
 }
 
 fn tell(asked: &Asked) -> Result<(), String> {
-    let Outcome { sessions, reached, difference } = trial(&asked.under, asked.seed, asked.limits);
+    let under = |error: io::Error| format!("{}: {error}", asked.under.display());
+    let outcome = trial(&asked.under, asked.seed, asked.limits).map_err(under)?;
+    let Outcome { sessions, reached, difference } = outcome;
     if let Some(difference) = difference {
-        save(&asked.save, &difference).map_err(|error| format!("{}: {error}", asked.save.display()))?;
-        say_difference(asked, &difference);
+        let smaller = difference.smaller(&asked.under).map_err(under)?;
+        save(&asked.save, &difference, &smaller)
+            .map_err(|error| format!("{}: {error}", asked.save.display()))?;
+        say_difference(asked, &difference, &smaller);
         return Err(format!("{} differs from the reference", asked.under.display()));
     }
     println!("{:>9}  what the sessions reached", "times");
@@ -89,26 +90,26 @@ fn tell(asked: &Asked) -> Result<(), String> {
     Ok(())
 }
 
-fn say_difference(asked: &Asked, difference: &Difference) {
+fn say_difference(asked: &Asked, difference: &Difference, smaller: &Smaller) {
     println!("session {} of seed {} differs; made smaller it is", difference.number, asked.seed);
-    println!("{}", readable(&difference.smaller));
+    println!("{}", readable(&smaller.session));
     println!("the reference prints");
-    println!("{}", String::from_utf8_lossy(&difference.expected));
+    println!("{}", String::from_utf8_lossy(&smaller.expected));
     println!("the program under trial prints");
-    println!("{}", String::from_utf8_lossy(&difference.answer.printed));
-    if let Some(trouble) = &difference.answer.trouble {
+    println!("{}", String::from_utf8_lossy(&smaller.answer.printed));
+    if let Some(trouble) = &smaller.answer.trouble {
         println!("and {trouble}");
     }
     println!("both sessions are in {}", asked.save.display());
 }
 
-fn save(folder: &Path, difference: &Difference) -> io::Result<()> {
+fn save(folder: &Path, difference: &Difference, smaller: &Smaller) -> io::Result<()> {
     fs::create_dir_all(folder)?;
     fs::write(folder.join("session.bin"), &difference.session)?;
-    fs::write(folder.join("smaller.bin"), &difference.smaller)?;
-    fs::write(folder.join("smaller.txt"), readable(&difference.smaller))?;
-    fs::write(folder.join("expected.txt"), &difference.expected)?;
-    fs::write(folder.join("printed.txt"), &difference.answer.printed)
+    fs::write(folder.join("smaller.bin"), &smaller.session)?;
+    fs::write(folder.join("smaller.txt"), readable(&smaller.session))?;
+    fs::write(folder.join("expected.txt"), &smaller.expected)?;
+    fs::write(folder.join("printed.txt"), &smaller.answer.printed)
 }
 
 /// The session in numbers as far as it can be read, and its bytes.
