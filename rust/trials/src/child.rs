@@ -6,7 +6,7 @@ use std::path::Path;
 use std::process::{Child, ChildStdin, Command, Stdio};
 use std::sync::mpsc;
 use std::thread;
-use std::time::Duration;
+use std::time::{Duration, Instant};
 
 /// How long a session may take.
 const PATIENCE: Duration = Duration::from_secs(20);
@@ -46,7 +46,7 @@ pub fn run(program: &Path, session: &[u8], piece: usize, most: u64) -> io::Resul
             Ok(printed) if printed.len() as u64 == most => {
                 stopped(&mut child, printed, "printed without end")
             }
-            Ok(printed) => Answer { printed, trouble: ended(&mut child) },
+            Ok(printed) => ended(&mut child, printed),
             Err(_) => stopped(&mut child, Vec::new(), "did not end"),
         }
     }))
@@ -64,9 +64,17 @@ fn feed(mut input: ChildStdin, session: &[u8], piece: usize) {
     }
 }
 
-fn ended(child: &mut Child) -> Option<String> {
-    let status = child.wait().expect("a child that was started can be waited for");
-    (!status.success()).then(|| format!("ended with {status}"))
+/// A program that has printed everything has a moment left to end.
+fn ended(child: &mut Child, printed: Vec<u8>) -> Answer {
+    let begun = Instant::now();
+    while begun.elapsed() < PATIENCE {
+        if let Some(status) = child.try_wait().expect("a child that was started can be waited for") {
+            let trouble = (!status.success()).then(|| format!("ended with {status}"));
+            return Answer { printed, trouble };
+        }
+        thread::sleep(Duration::from_micros(50));
+    }
+    stopped(child, printed, "did not end")
 }
 
 fn stopped(child: &mut Child, printed: Vec<u8>, trouble: &str) -> Answer {

@@ -15,6 +15,7 @@ enum Kind {
     BrokenTable,
     BadNumber,
     OtherNumber,
+    Count,
     Damaged,
     Cut,
     Noise,
@@ -27,6 +28,7 @@ const KINDS: &[(u64, Kind)] = &[
     (120, Kind::BrokenTable),
     (90, Kind::BadNumber),
     (50, Kind::OtherNumber),
+    (30, Kind::Count),
     (80, Kind::Damaged),
     (60, Kind::Cut),
     (6, Kind::Noise),
@@ -54,6 +56,10 @@ fn spoilt(random: &mut Random, kind: Kind, mut numbers: Vec<u64>) -> Vec<u8> {
         Kind::OtherNumber => {
             let place = random.below(numbers.len() as u64) as usize;
             numbers[place] = another(random, numbers[place]);
+            packed(&numbers)
+        }
+        Kind::Count => {
+            numbers.extend(count(random));
             packed(&numbers)
         }
         Kind::Damaged => damaged(random, packed(&numbers)),
@@ -117,7 +123,7 @@ fn broken_table(random: &mut Random) -> Vec<u64> {
     numbers
 }
 
-fn packed(numbers: &[u64]) -> Vec<u8> {
+pub(crate) fn packed(numbers: &[u64]) -> Vec<u8> {
     let mut bytes = Vec::new();
     for &number in numbers {
         push_number(number, &mut bytes).expect("a number below 2^63");
@@ -162,6 +168,19 @@ fn another(random: &mut Random, number: u64) -> u64 {
     let wide = random.wide();
     let edge = random.pick(&[0, 1, 2, 3, 15, 16, 17, 63, 64, 65, 66, 127, 128, 255, 256]);
     random.pick(&[near, edge, edge, wide])
+}
+
+/// The beginning of a record whose count lies at its limit, and too few numbers
+/// after it: whether the count or the end of the bytes is refused tells where
+/// the limit is.
+fn count(random: &mut Random) -> Vec<u64> {
+    let r = random.near((1 << 48) - 1);
+    let mut numbers = match random.below(2) {
+        0 => vec![r, random.between(63, 66)],
+        _ => vec![r, 0, random.between(14, 17)],
+    };
+    numbers.resize(numbers.len() + random.below(4) as usize, 0);
+    numbers
 }
 
 fn damaged(random: &mut Random, mut bytes: Vec<u8>) -> Vec<u8> {

@@ -1,17 +1,22 @@
 //! Makes a session on which two programs differ small: whole records first,
-//! then releases and reports, each left out where the difference stays.
+//! then releases and reports, then the last tasks, each left out where the
+//! difference stays.
 
+use reference::session::read_table;
 use reference::written::{read_record, record_bytes, Bytes};
-use reference::{session::read_table, Common, Record, Table};
+use reference::{Common, Record, Table};
+
+use crate::sessions::packed;
+use crate::tables::Numbers;
 
 /// How many smaller sessions are tried.
 const TRIES: usize = 400;
 
-/// A session taken apart: the table's bytes, the records that can be read, and
-/// what is left after them.
+/// A session taken apart: the table where it can be read, the records that can
+/// be, and what is left after them.
 #[derive(Clone)]
 struct Parts {
-    table: Vec<u8>,
+    table: Option<Numbers>,
     records: Vec<Record>,
     rest: Vec<u8>,
 }
@@ -25,7 +30,8 @@ struct Shrinking<F> {
 /// A smaller session on which `differs` still holds, or the same one.
 pub fn shrink(session: &[u8], differs: impl FnMut(&[u8]) -> bool) -> Vec<u8> {
     let mut shrinking = Shrinking { differs, tries: TRIES, least: take_apart(session) };
-    shrinking.cut_the_end();
+    shrinking.attempt(|parts| parts.rest.clear());
+    shrinking.cut(|parts| Some(&mut parts.records));
     for record in (0..shrinking.least.records.len()).rev() {
         shrinking.attempt(|parts| {
             parts.records.remove(record);
@@ -34,6 +40,7 @@ pub fn shrink(session: &[u8], differs: impl FnMut(&[u8]) -> bool) -> Vec<u8> {
     for record in (0..shrinking.least.records.len()).rev() {
         shrinking.thin(record);
     }
+    shrinking.cut(|parts| parts.table.as_mut().map(|table| &mut table.tasks));
     shrinking.least.bytes()
 }
 
@@ -53,13 +60,10 @@ impl<F: FnMut(&[u8]) -> bool> Shrinking<F> {
         kept
     }
 
-    /// Leaves out the bytes after the last record, then half of the records
-    /// from the end as long as that works.
-    fn cut_the_end(&mut self) {
-        self.attempt(|parts| parts.rest.clear());
-        while self.least.records.len() > 1 {
-            let half = self.least.records.len() / 2;
-            if !self.attempt(|parts| parts.records.truncate(half)) {
+    /// Leaves out half of a list from its end as long as that works.
+    fn cut<T>(&mut self, list: impl Fn(&mut Parts) -> Option<&mut Vec<T>>) {
+        while let Some(half) = list(&mut self.least).map(|list| list.len() / 2).filter(|&half| half > 0) {
+            if !self.attempt(|parts| list(parts).expect("the same list").truncate(half)) {
                 return;
             }
         }
@@ -82,7 +86,7 @@ impl<F: FnMut(&[u8]) -> bool> Shrinking<F> {
 
 impl Parts {
     fn bytes(&self) -> Vec<u8> {
-        let mut bytes = self.table.clone();
+        let mut bytes = self.table.as_ref().map_or(Vec::new(), |table| packed(&table.written()));
         for record in &self.records {
             bytes.extend(record_bytes(record).expect("a record that was read can be written"));
         }
@@ -93,16 +97,16 @@ impl Parts {
 
 fn take_apart(session: &[u8]) -> Parts {
     let mut bytes = Bytes::new(session);
+    let Ok(table) = read_table(&mut bytes) else {
+        return Parts { table: None, records: Vec::new(), rest: session.to_vec() };
+    };
     let mut records = Vec::new();
-    let mut read = 0;
-    if read_table(&mut bytes).is_ok() {
-        read = bytes.taken() as usize;
-    }
-    let table = session[..read].to_vec();
-    while read > 0 {
-        let Ok(record) = read_record(&mut bytes, Common::TASKS, Table::NODES) else { break };
+    let mut read = bytes.taken() as usize;
+    while let Ok(record) = read_record(&mut bytes, Common::TASKS, Table::NODES) {
         read = bytes.taken() as usize;
         records.push(record);
     }
-    Parts { table, records, rest: session[read..].to_vec() }
+    let table =
+        Numbers { nodes: table.nodes() as u64, timeout: table.timeout(), tasks: table.tasks().to_vec() };
+    Parts { table: Some(table), records, rest: session[read..].to_vec() }
 }
