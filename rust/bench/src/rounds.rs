@@ -49,7 +49,7 @@ impl Making {
     }
 
     /// Releases of at most `count` tasks that are due, those with the fewest
-    /// jobs in the order first, so that every task stays in it.
+    /// jobs in the order first, so that the order stays mixed.
     fn due(&self, r: u64, count: usize) -> Vec<Release> {
         let queued = |task: &usize| self.common.jobs().iter().filter(|&job| job == task).count();
         let mut due: Vec<usize> = (0..self.table.tasks().len()).collect();
@@ -102,5 +102,37 @@ impl Making {
             14 => self.report(r, self.common.length(), 0),
             _ => self.report(r, self.common.base() + 1 + node % 3, 1),
         }
+    }
+}
+
+#[cfg(test)]
+mod tests {
+    use super::*;
+    use reference::session::run_bytes;
+
+    /// The lines that a session prints, none of them a refusal.
+    fn lines(session: &[u8]) -> Vec<String> {
+        let printed = String::from_utf8(run_bytes(session)).expect("printed lines");
+        assert!(!printed.contains("refused"));
+        printed.lines().map(str::to_string).collect()
+    }
+
+    #[test]
+    fn the_canal_goes_on_with_its_base_moving() {
+        let lines = lines(&canal(300));
+        assert_eq!(lines.len(), 301);
+        // 150 jobs of task 0, 75 of task 1 and 38 of task 2 by 14950.
+        assert_eq!(lines[299], "round 14950 ipo 263 base 262 length 263 toc 14902 nodes 000");
+    }
+
+    #[test]
+    fn the_full_order_keeps_256_jobs_of_nearly_all_tasks() {
+        let lines = lines(&full(300));
+        assert_eq!(lines.len(), 301);
+        let tasks: Vec<&str> = lines[300].split([' ', ':']).skip(2).step_by(2).collect();
+        assert_eq!(tasks.len(), 256);
+        let there = (0..64).filter(|task: &u64| tasks.contains(&task.to_string().as_str())).count();
+        assert!(there >= 60, "{there} of 64 tasks");
+        assert!(lines[299].ends_with(" nodes 000000000000004"), "{}", lines[299]);
     }
 }
