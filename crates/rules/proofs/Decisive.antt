@@ -70,7 +70,8 @@ pub running-told : Seen (after (begun 8 ++ (B (start-at 12) ∷ []) ++ both-repo
 unfolding all asked stepped run apply-whole whole-after order-after
 running-told = record { closes = refl; starts = refl; orders = refl }
 
--- Refusal 13: the same, with a record that has another entry in B's place. B does not close it: its order would be 1, 0, 2.
+-- Refusal 13: the same, with a record that has another entry in B's place. B does not close it: its own order would be 1, 0, 2, and stay so once it is
+-- left behind.
 pub entry-compared : Seen (after (begun 8 ++ (B (start-at 12) ∷ []) ++ both-report 12 ++ both-close locked-12) 1) (round-0 ∷ []) (1 ∷ 2 ∷ []) (1 ∷ 2 ∷ [])
 unfolding all asked stepped run apply-whole whole-after order-after
 entry-compared = record { closes = refl; starts = refl; orders = refl }
