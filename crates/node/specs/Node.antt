@@ -1,8 +1,9 @@
 -- What a node by value stands for, and what the answers say.
 use mathlib.Core.Path.{_≡_}
 use mathlib.Core.Option.{Option, none, some}
-use Prim.Native.Nat.{ℕ}
-use Rattle.laws.specs.Tests.{_<?_}
+use mathlib.Core.Bool.{Bool, false, _&&_}
+use Prim.Native.Nat.{ℕ, _^_, _<_}
+use Rattle.laws.specs.Tests.{_<?_, maybe}
 use Rattle.rules.specs.Answer.{Answer, done, refused, refused-by, refuse_if_else_}
 use Rattle.rules.specs.Close.{too-late}
 use Rattle.rules.specs.Node as rules
@@ -63,6 +64,13 @@ pub record Given (t : Table) (n : Node) : Type 0 where
 pub record Ours (n : Node) : Type 0 where
   pub t : Table
   pub given : Given t n
+
+-- "beyond both O and the lock": what `beyond-lock` of the rules asks, of the numbers that it reads.
+abbrev pub beyond-lock-at : Option rules.Open → ℕ → ℕ → Bool
+beyond-lock-at o offset position = maybe false (λ o. (offset <? position) && (rules.lock o <? position)) o
+
+pub record Lockable (o : Opening) : Type 0 where
+  pub small : (s : rules.Open) → roundOf o ≡ some s → rules.lock s < 2 ^ 64
 
 -- "start 3 to 9; finish 3, 4, 5, 10; report 3, 4, 5, 11": the first three, in that order.
 abbrev pub clock-rule : ℕ → ℕ → ℕ → ℕ → Answer (Unit {0})

@@ -1,7 +1,7 @@
 // What a node does: start, finish, report and close.
 ghost use mathlib.Core.Path.{_≡_};
 ghost use Rattle.rules.specs.Node.{finish};
-ghost use Rattle.node.specs.Node.{clockOf, clock-rule, nodeOf, Ours, finishing};
+ghost use Rattle.node.specs.Node.{clockOf, clock-rule, roundOf, beyond-lock-at, Lockable, nodeOf, Ours, finishing};
 use common::Common;
 use round::Report;
 
@@ -71,6 +71,26 @@ pub fn clock_check(latest: u64, progress: u64, base: u64, now: u64) -> Clock
         return Clock::Refused(5);
     }
     Clock::Runs
+}
+
+// 8: "start while a round is open, beyond both O and the lock". "The lock is progress + run."
+pub fn beyond_lock(round: Opening, offset: u64, position: u64) -> bool
+    requires { ⌜ Lockable round ⌝ }
+    ensures { λ r. ⌜ r ≡ beyond-lock-at (roundOf round) offset position ⌝ }
+{
+    match round {
+        Opening::Shut => false,
+        Opening::Open(sent) => {
+            let lock = sent.report.progress + sent.report.run;
+            if position <= offset {
+                return false;
+            }
+            if position <= lock {
+                return false;
+            }
+            true
+        }
+    }
 }
 
 // "Finish: progress grows by one, the completion time is now, the mark falls."
