@@ -1,17 +1,23 @@
 -- What a node by value stands for, and what the answers say.
 use mathlib.Core.Path.{_≡_}
 use mathlib.Core.Option.{Option, none, some}
-use mathlib.Core.Bool.{Bool, false, _&&_}
-use Prim.Native.Nat.{ℕ, _^_, _<_}
-use Rattle.laws.specs.Tests.{_<?_, maybe}
-use Rattle.rules.specs.Answer.{Answer, done, refused, refused-by, refuse_if_else_}
+use mathlib.Core.Bool.{Bool, true, false, _&&_, _||_}
+use Prim.Native.Nat.{ℕ, _+_, _^_, _≤_, _<_}
+use Rattle.laws.specs.Tests.{_<?_, _≤?_, _=?_, if_then_else_, maybe}
+use Rattle.rules.specs.Answer.{Answer, done, refused, refused-by, refuse_if_else_, refuse_naming_else_}
 use Rattle.rules.specs.Close.{too-late}
+use Rattle.rules.specs.Table as tables
+use Rattle.rules.specs.Common as commons
+use Rattle.rules.specs.Common.{L, job-at, projection, breaker, within-bound}
 use Rattle.rules.specs.Node as rules
 use Rattle.rules.specs.Sound.{SoundNode}
-use Rattle.table.specs.Table.{tableOf}
+use Rattle.table.specs.Table.{tableOf, Checked}
 use Rattle.table.specs.declared.Table.{Table}
 use Rattle.round.specs.Round.{reportOf, report-as}
+use Rattle.round.specs.declared.Report.{Report}
+use Rattle.common.specs.declared.Common.{Common}
 use Rattle.common.specs.Common.{commonOf, common-as}
+use Rattle.common.specs.Common as values
 use Rattle.node.specs.declared.Sent.{Sent}
 use Rattle.node.specs.declared.Opening.{Opening}
 use Rattle.node.specs.declared.Opening.the-variants as opening
@@ -22,6 +28,11 @@ use Rattle.node.specs.declared.Starting.{Starting}
 use Rattle.node.specs.declared.FinishAnswer.{FinishAnswer}
 use Rattle.node.specs.declared.FinishAnswer.the-variants as finish
 use Rattle.node.specs.declared.Finishing.{Finishing}
+use Rattle.node.specs.declared.ReportAnswer.{ReportAnswer}
+use Rattle.node.specs.declared.ReportAnswer.the-variants as report
+use Rattle.node.specs.declared.Reporting.{Reporting}
+use Rattle.node.specs.declared.Permission.{Permission}
+use Rattle.node.specs.declared.Permission.the-variants as permission
 use Rattle.node.specs.declared.Clock.{Clock}
 use Rattle.node.specs.declared.Clock.the-variants as clock
 
@@ -69,6 +80,10 @@ pub record Ours (n : Node) : Type 0 where
 abbrev pub beyond-lock-at : Option rules.Open → ℕ → ℕ → Bool
 beyond-lock-at o offset position = maybe false (λ o. (offset <? position) && (rules.lock o <? position)) o
 
+-- What `broken-now` of the rules asks, of the numbers that it reads.
+abbrev pub broken-at : tables.Table → commons.Common → Bool → ℕ → ℕ → Option ℕ
+broken-at tab c opened position now = if opened || (position ≤? c .O) then none else breaker tab c position now
+
 pub record Lockable (o : Opening) : Type 0 where
   pub small : (s : rules.Open) → roundOf o ≡ some s → rules.lock s < 2 ^ 64
 
@@ -87,7 +102,82 @@ starting n (done s) = record { answer = starts.Starts (s .named); node = node-as
 starting n (refused k) = record { answer = starts.Refused k; node = n }
 starting n (refused-by k i) = record { answer = starts.Waits i; node = n }
 
+-- A node that is asked, in time and not left behind, for its next position.
+pub record Asking (t : Table) (n : Node) (now : ℕ) : Type 0 where
+  pub table : Checked t
+  pub given : Given t n
+  pub base : n .common .base ≤ n .progress
+  pub soon : now < 2 ^ 48
+
+-- "start 3 to 9": the last four, in that order.
+abbrev pub permission-rule : tables.Table → rules.Node → ℕ → Answer (Unit {0})
+permission-rule tab n now =
+    refuse 6 if n .running
+    else refuse 7 if n .progress =? L (n .common)
+    else refuse 8 if rules.beyond-lock n
+    else refuse 9 naming rules.broken-now tab n now
+    else done tt
+
+abbrev pub permissionOf : Answer (Unit {0}) → Permission
+permissionOf (done x) = permission.Granted
+permissionOf (refused k) = permission.Refused k
+permissionOf (refused-by k i) = permission.Waits i
+
+-- A node whose next position exists.
+pub record Startable (n : Node) : Type 0 where
+  pub ours : Ours n
+  pub base : n .common .base ≤ n .progress
+  pub more : n .progress < L (commonOf (n .common))
+
+abbrev pub started-now : Node → ℕ → Starting
+started-now n now = record {
+  answer = starts.Starts ((job-at (commonOf (n .common)) (n .progress + 1)) .task-of);
+  node = record {
+    number = n .number;
+    common = n .common;
+    progress = n .progress;
+    completed = n .completed;
+    running = true;
+    latest = now;
+    round = n .round;
+  };
+}
+
 abbrev pub finishing : Node → Answer rules.Node → Finishing
 finishing n (done m) = record { answer = finish.Finished; node = node-as m }
 finishing n (refused k) = record { answer = finish.Refused k; node = n }
 finishing n (refused-by k i) = record { answer = finish.Refused k; node = n }
+
+-- What may be asked of a position that a node has reached, at a time.
+pub record Reachable (t : Table) (c : Common) (progress r : ℕ) : Type 0 where
+  pub table : Checked t
+  pub common : values.Given t c
+  pub from : c .base ≤ progress
+  pub to : progress ≤ c .base + c .count
+  pub soon : r < 2 ^ 48
+
+-- What `next-soon` of the rules asks, of the numbers that it reads.
+abbrev pub next-soon-at : tables.Table → commons.Common → ℕ → ℕ → Bool
+next-soon-at tab c progress r =
+    (progress + 1 ≤? L c) && ((progress + 1 ≤? c .O) || within-bound tab c (progress + 1) r) && (projection tab c progress <? r + tab .timeout)
+
+abbrev pub reporting : Node → Answer rules.Reported → Reporting
+reporting n (done s) = record { answer = report.Sends (report-as (s .sent)); node = node-as (s .node) }
+reporting n (refused k) = record { answer = report.Refused k; node = n }
+reporting n (refused-by k i) = record { answer = report.Refused k; node = n }
+
+abbrev pub reported-now : Node → ℕ → ℕ → Reporting
+reported-now n r run =
+    let e : Report = record { progress = n .progress; completed = n .completed; run = run } in
+    record {
+      answer = report.Sends e;
+      node = record {
+        number = n .number;
+        common = n .common;
+        progress = n .progress;
+        completed = n .completed;
+        running = n .running;
+        latest = r;
+        round = opening.Open (record { time = r; report = e });
+      };
+    }

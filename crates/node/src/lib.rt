@@ -1,9 +1,16 @@
 // What a node does: start, finish, report and close.
 ghost use mathlib.Core.Path.{_≡_};
-ghost use Rattle.rules.specs.Node.{finish};
-ghost use Rattle.node.specs.Node.{clockOf, clock-rule, roundOf, beyond-lock-at, Lockable, nodeOf, Ours, finishing};
+ghost use Rattle.laws.specs.Tests.{found};
+ghost use Rattle.rules.specs.Node.{start, finish, report-of, report};
+ghost use Rattle.table.specs.Table.{tableOf, Checked};
+ghost use Rattle.common.specs.Common.{commonOf};
+ghost use Rattle.common.specs.Raw.{breachOf};
+ghost use Rattle.common.specs.Positions.{Occupied};
+ghost use Rattle.node.specs.Node.{clockOf, clock-rule, roundOf, beyond-lock-at, Lockable, broken-at, nodeOf, Given, Ours, Asking, permission-rule, permissionOf, Startable, starting, started-now, finishing, Reachable, next-soon-at, reporting, reported-now};
+use common::Breach;
 use common::Common;
 use round::Report;
+use table::Table;
 
 // What was sent for the round that is open.
 pub struct Sent {
@@ -51,6 +58,23 @@ pub struct Finishing {
     pub node: Node,
 }
 
+// Whether the job at the next position may start, by 6 to 9; 9 with the task that breaks the bound.
+pub enum Permission {
+    Granted,
+    Refused(u64),
+    Waits(u64),
+}
+
+pub enum ReportAnswer {
+    Sends(Report),
+    Refused(u64),
+}
+
+pub struct Reporting {
+    pub answer: ReportAnswer,
+    pub node: Node,
+}
+
 // The refusals that a start, a finish and a report share.
 pub enum Clock {
     Runs,
@@ -93,6 +117,104 @@ pub fn beyond_lock(round: Opening, offset: u64, position: u64) -> bool
     }
 }
 
+fn is_open(round: Opening) -> bool
+    ensures { λ r. ⌜ r ≡ found (roundOf round) ⌝ }
+{
+    match round {
+        Opening::Shut => false,
+        Opening::Open(sent) => true,
+    }
+}
+
+// 9: "bound broken, with the lowest-numbered task that breaks it": asked past O, and with no round open.
+fn broken_at(table: Table, common: Common, opened: bool, position: u64, time: u64) -> Breach
+    requires { ⌜ Occupied table common position time ⌝ }
+    ensures { λ r. ⌜ r ≡ breachOf (broken-at (tableOf table) (commonOf common) opened position time) ⌝ }
+{
+    if opened {
+        return Breach::Met;
+    }
+    if position <= common.offset {
+        return Breach::Met;
+    }
+    common::bound_of(table, common, position, time)
+}
+
+// "Each accepted start makes its own time the latest; a start raises the mark."
+fn started(node: Node, now: u64) -> Starting
+    requires { ⌜ Startable node ⌝ }
+    ensures { λ r. ⌜ r ≡ started-now node now ⌝ }
+{
+    let common = node.common;
+    let k = (node.progress - common.base) as usize;
+    let task = common::task_at(&common.tasks, k);
+    let mut next = node;
+    next.running = true;
+    next.latest = now;
+    Starting {
+        answer: StartAnswer::Starts(task as u64),
+        node: next,
+    }
+}
+
+// "Permitted if the position is ≤ O, or ≤ the lock while a round is open, or, with no round open, if the bound holds now": 6, 7, 8, 9.
+fn may_start(table: Table, node: Node, now: u64) -> Permission
+    requires { ⌜ Asking table node now ⌝ }
+    ensures { λ r. ⌜ r ≡ permissionOf (permission-rule (tableOf table) (nodeOf node) now) ⌝ }
+{
+    if node.running {
+        return Permission::Refused(6);
+    }
+    let common = node.common;
+    let length = common.base + (common.count as u64);
+    if node.progress == length {
+        return Permission::Refused(7);
+    }
+    let round = node.round;
+    let position = node.progress + 1;
+    let beyond = beyond_lock(round, common.offset, position);
+    if beyond {
+        return Permission::Refused(8);
+    }
+    let opened = is_open(round);
+    let breach = broken_at(table, common, opened, position, now);
+    match breach {
+        Breach::By(task) => Permission::Waits(task as u64),
+        Breach::Met => Permission::Granted,
+    }
+}
+
+// "Start, position progress + 1. The reply to an accepted start names the task of the job that stands there at that moment."
+pub fn start_node(table: Table, node: Node, now: u64) -> Starting
+    requires { ⌜ Checked table ⌝ }
+    requires { ⌜ Given table node ⌝ }
+    ensures { λ r. ⌜ r ≡ starting node (start (tableOf table) (nodeOf node) now) ⌝ }
+{
+    let base = node.common.base;
+    let checked = clock_check(node.latest, node.progress, base, now);
+    match checked {
+        Clock::Refused(number) => {
+            return Starting {
+                answer: StartAnswer::Refused(number),
+                node,
+            };
+        }
+        Clock::Runs => {}
+    }
+    let permitted = may_start(table, node, now);
+    match permitted {
+        Permission::Refused(number) => Starting {
+            answer: StartAnswer::Refused(number),
+            node,
+        },
+        Permission::Waits(task) => Starting {
+            answer: StartAnswer::Waits(task),
+            node,
+        },
+        Permission::Granted => started(node, now),
+    }
+}
+
 // "Finish: progress grows by one, the completion time is now, the mark falls."
 pub fn finish_node(node: Node, now: u64) -> Finishing
     requires { ⌜ Ours node ⌝ }
@@ -122,6 +244,95 @@ pub fn finish_node(node: Node, now: u64) -> Finishing
     next.latest = now;
     Finishing {
         answer: FinishAnswer::Finished,
+        node: next,
+    }
+}
+
+// "position progress + 1 exists, is ≤ O or within the bound at r, and projection(progress) < r + timeout"
+fn next_soon(table: Table, common: Common, progress: u64, r: u64) -> bool
+    requires { ⌜ Reachable table common progress r ⌝ }
+    ensures { λ s. ⌜ s ≡ next-soon-at (tableOf table) (commonOf common) progress r ⌝ }
+{
+    let length = common.base + (common.count as u64);
+    if length <= progress {
+        return false;
+    }
+    let breach = broken_at(table, common, false, progress + 1, r);
+    match breach {
+        Breach::By(task) => {
+            return false;
+        }
+        Breach::Met => {}
+    }
+    let end = common::projection_of(table, common, progress);
+    end < r + table.timeout
+}
+
+// "Run is 1 if a job runs. It is also 1 if .. Otherwise it is 0."
+fn run_at(table: Table, node: Node, r: u64) -> u64
+    requires { ⌜ Asking table node r ⌝ }
+    ensures { λ s. ⌜ s ≡ (report-of (tableOf table) (nodeOf node) r) .run ⌝ }
+{
+    if node.running {
+        return 1;
+    }
+    let common = node.common;
+    let soon = next_soon(table, common, node.progress, r);
+    if soon {
+        return 1;
+    }
+    0
+}
+
+// "Report at the round time r gives (progress, completion time, run)"; "a report opens the round".
+pub fn report_node(table: Table, node: Node, r: u64) -> Reporting
+    requires { ⌜ Checked table ⌝ }
+    requires { ⌜ Given table node ⌝ }
+    ensures { λ s. ⌜ s ≡ reporting node (report (tableOf table) (nodeOf node) r) ⌝ }
+{
+    let base = node.common.base;
+    let checked = clock_check(node.latest, node.progress, base, r);
+    match checked {
+        Clock::Refused(number) => {
+            return Reporting {
+                answer: ReportAnswer::Refused(number),
+                node,
+            };
+        }
+        Clock::Runs => {}
+    }
+    let round = node.round;
+    let opened = is_open(round);
+    if opened {
+        return Reporting {
+            answer: ReportAnswer::Refused(11),
+            node,
+        };
+    }
+    let run = run_at(table, node, r);
+    reported(node, r, run)
+}
+
+fn reported(node: Node, r: u64, run: u64) -> Reporting
+    ensures { λ s. ⌜ s ≡ reported-now node r run ⌝ }
+{
+    let common = node.common;
+    let report = Report {
+        progress: node.progress,
+        completed: node.completed,
+        run,
+    };
+    let next = Node {
+        number: node.number,
+        common,
+        progress: node.progress,
+        completed: node.completed,
+        running: node.running,
+        latest: r,
+        round: Opening::Open(Sent { time: r, report }),
+    };
+    Reporting {
+        answer: ReportAnswer::Sends(report),
         node: next,
     }
 }

@@ -1,0 +1,142 @@
+-- A start: the clock, then permission; a lemma for each way out.
+use mathlib.Core.Path.{_≡_, sym, ap, _∙_}
+use mathlib.Core.Bool.{true, false}
+use Prim.Native.Nat.{ℕ, _+_, _≤_, _<_}
+use native.Mathlib.Omega.{arith}
+use borrow.Author.Tests.{eqb-false}
+use Rattle.laws.specs.Tests.{_=?_}
+use Rattle.rules.specs.Answer.{done}
+use Rattle.rules.specs.Common.{L}
+use Rattle.rules.specs.Node as rules
+use Rattle.rules.proofs.Nodes.{when-started}
+use Rattle.table.specs.Table.{tableOf, Checked}
+use Rattle.table.specs.declared.Table.{Table}
+use Rattle.common.specs.Common.{commonOf}
+use Rattle.common.proofs.Records.{length-is}
+use Rattle.node.specs.declared.Node.{Node}
+use Rattle.node.specs.declared.Starting.{Starting}
+use Rattle.node.specs.declared.StartAnswer.the-variants as starts
+use Rattle.node.specs.declared.Permission.{Permission}
+use Rattle.node.specs.declared.Permission.the-variants as permission
+use Rattle.node.specs.declared.Clock.{Clock}
+use Rattle.node.specs.declared.Clock.the-variants as clock
+use Rattle.node.specs.Node.{nodeOf, clock-rule, clockOf, Given, Asking, permission-rule, permissionOf, Startable, starting, started-now}
+use Rattle.node.proofs.Laws.{rebuilt, clock-stops, clock-runs, on-time, permission-stops, permission-waits, permission-grants, common-given, progress-within, strictly}
+use borrow.Author.Needs.{needs}
+use Rattle.node.proofs.start_node.Statement.{statement}
+use Rattle.node.proofs.start_node.Tie as tie
+use Rattle.node.proofs.start_node.Reads as reads
+use Rattle.node.proofs.start_node.Lts as lts
+use Rattle.node.proofs.clock_check.Reads as clock-check-reads
+use Rattle.node.proofs.may_start.Reads as may-start-reads
+use Rattle.node.proofs.started.Reads as started-reads
+
+module _ {t : Table} {n : Node} (v : Given t n) (now : ℕ) {a : Clock} (p : a ≡ clockOf (clock-rule (n .latest) (n .progress) (n .common .base) now)) where
+  abbrev Says : Starting → Type 0
+  Says r = r ≡ starting n (rules.start (tableOf t) (nodeOf n) now)
+
+  stops : {k : ℕ} → a ≡ clock.Refused k → Says (record { answer = starts.Refused k; node = n })
+  unfolding rules.start
+  stops h = ap (starting n) (sym (clock-stops _ (n .latest) (n .progress) (n .common .base) now p h))
+
+  module _ (h : a ≡ clock.Runs) where
+    asking : Checked t → Asking t n now
+    asking z =
+        let o = on-time (n .latest) (n .progress) (n .common .base) now p h in
+        record { table = z; given = v; base = o .ahead; soon = o .in-time }
+
+    module _ {d : Permission} (m : d ≡ permissionOf (permission-rule (tableOf t) (nodeOf n) now)) where
+      not-permitted : {k : ℕ} → d ≡ permission.Refused k → Says (record { answer = starts.Refused k; node = n })
+      unfolding rules.start
+      not-permitted g =
+          ap (starting n) (sym (clock-runs _ (n .latest) (n .progress) (n .common .base) now p h
+          ∙ permission-stops (done (when-started (nodeOf n) now)) (n .running) (n .progress =? L (commonOf (n .common))) (rules.beyond-lock (nodeOf n)) (rules.broken-now (tableOf t) (nodeOf n) now) (sym m ∙ g)))
+
+      waits : {i : ℕ} → d ≡ permission.Waits i → Says (record { answer = starts.Waits i; node = n })
+      unfolding rules.start
+      waits g =
+          ap (starting n) (sym (clock-runs _ (n .latest) (n .progress) (n .common .base) now p h
+          ∙ permission-waits (done (when-started (nodeOf n) now)) (n .running) (n .progress =? L (commonOf (n .common))) (rules.beyond-lock (nodeOf n)) (rules.broken-now (tableOf t) (nodeOf n) now) (sym m ∙ g)))
+
+      module _ (g : d ≡ permission.Granted) where
+        all-pass : (rules.start (tableOf t) (nodeOf n) now ≡ done (when-started (nodeOf n) now)) × ((n .progress =? L (commonOf (n .common))) ≡ false)
+        unfolding rules.start
+        all-pass =
+            let k = permission-grants (done (when-started (nodeOf n) now)) (n .running) (n .progress =? L (commonOf (n .common))) (rules.beyond-lock (nodeOf n)) (rules.broken-now (tableOf t) (nodeOf n) now) (sym m ∙ g) in
+            (clock-runs _ (n .latest) (n .progress) (n .common .base) now p h ∙ k .0, k .1)
+
+        startable : Startable n
+        startable =
+            let o = on-time (n .latest) (n .progress) (n .common .base) now p h in
+            let l : n .progress ≤ L (commonOf (n .common)) = omega (arith, progress-within v, length-is (common-given v)) in
+            record { ours = record { t = t; given = v }; base = o .ahead; more = strictly l (eqb-false _ _ (all-pass .1)) }
+
+        goes : {r : Starting} → r ≡ started-now n now → Says r
+        goes q =
+            q
+            ∙ ap (λ (x : Node). record { answer = (started-now n now) .answer; node = x }) (rebuilt n (v .exact) (n .progress) (n .completed) true now (n .round))
+            ∙ ap (starting n) (sym (all-pass .0))
+
+-- src/lib.rt:184:9
+clock-check-requires : tie.Need-clock-check-requires
+clock-check-requires c κs = search needs
+
+-- src/lib.rt:186:24
+enum-known-checked : tie.Need-enum-known-checked
+enum-known-checked c = search needs
+
+-- src/lib.rt:187:13
+returns : tie.Need-returns
+returns c = search stops
+
+enum-told : tie.Need-enum-told
+enum-told c = search needs
+
+-- src/lib.rt:194:9
+may-start-requires : tie.Need-may-start-requires
+may-start-requires c κs = search asking
+
+-- src/lib.rt:196:29
+enum-known-permitted : tie.Need-enum-known-permitted
+enum-known-permitted c = search needs
+
+-- src/lib.rt:200:27
+enum-known-permitted-2 : tie.Need-enum-known-permitted-2
+enum-known-permitted-2 c = search needs
+
+-- src/lib.rt:204:32
+enum-told-2 : tie.Need-enum-told-2
+enum-told-2 c = search needs
+
+-- src/lib.rt:204:32
+started-requires : tie.Need-started-requires
+started-requires c κs = search startable
+
+-- src/lib.rt:178:1
+returns-2 : tie.Need-returns-2
+returns-2 c = search not-permitted
+
+-- src/lib.rt:178:1
+returns-3 : tie.Need-returns-3
+returns-3 c = search waits
+
+-- src/lib.rt:178:1
+returns-4 : tie.Need-returns-4
+returns-4 c = search goes
+
+pub start-node-spec : {M : Type 1} → statement M
+start-node-spec =
+    tie.close
+    (tie.spec
+    clock-check-requires
+    enum-known-checked
+    returns
+    enum-told
+    may-start-requires
+    enum-known-permitted
+    enum-known-permitted-2
+    enum-told-2
+    started-requires
+    returns-2
+    returns-3
+    returns-4)
