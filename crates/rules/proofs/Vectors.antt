@@ -167,14 +167,15 @@ first-class :
 unfolding all
 first-class = (refl, refl, refl, refl)
 
--- 4 "some position from O + 1 to progress + run breaks the bound at r": not only the last of them, not the ones up to O.
+-- 4 "some position from O + 1 to progress + run breaks the bound at r": not only the last of them, not those up to O, none past it.
 over-bound-edges :
     (map (class canal common-0 10) (sends 1 8 0 ∷ sends 1 8 1 ∷ []) ≡ 0 ∷ 4 ∷ [])
     × (map (class canal common-0 12) (sends 1 8 1 ∷ sends 2 12 0 ∷ []) ≡ 0 ∷ 0 ∷ [])
     × (class canal (common (2 ∷ 0 ∷ []) 0 21 0 [] none) 10 (sends 2 10 0) ≡ 4)
     × (class canal (common (2 ∷ 0 ∷ []) 0 21 1 [] none) 10 (sends 2 10 0) ≡ 0)
+    × (class canal (common (1 ∷ 0 ∷ 2 ∷ []) 0 2 1 [] none) 10 (sends 2 10 0) ≡ 0)
 unfolding all
-over-bound-edges = (refl, refl, refl, refl)
+over-bound-edges = (refl, refl, refl, refl, refl)
 
 -- 5 "completion time > projection(progress), or progress < O and projection(progress + 1) < r": after round 10 projection(0) is 2, (1) is 22, (2) is 32.
 late-edges :
@@ -308,6 +309,16 @@ due :
     × (only (close canal common-0 (round-at 199 (released 0 0 ∷ released 1 1 ∷ []) all-missing)) ≡ done (some 199))
 unfolding all
 due = (refl, refl, refl)
+
+-- "E(task) becomes release time + T": not + D, and here T is 150 and D 100.
+abbrev again-at : ℕ → Answer (Option ℕ)
+again-at r =
+    only (close (table 3 2 (has 10 150 100 40 ∷ [])) fresh (round-at 0 (released 0 0 ∷ []) all-missing) >>= λ k.
+    close (table 3 2 (has 10 150 100 40 ∷ [])) (k .common) (round-at r (released 0 0 ∷ []) all-missing))
+
+due-by-distance : (again-at 149 ≡ refused 16) × (again-at 150 ≡ done (some 150))
+unfolding all
+due-by-distance = (refl, refl)
 
 -- 17 "L + releases − new B > 256": 256 jobs are kept, all up to O, and the nodes that report have finished n of them; the new B is n.
 abbrev full : ℕ → List Release → Answer (ℕ × ℕ)

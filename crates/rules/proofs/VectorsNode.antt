@@ -127,33 +127,37 @@ lock-edges :
     × (after-round-0 0 reports 10 starts 10 finishes 11 starts 12 ≡ refused 8)
     × (seen (after-round-0 0 starts 2 finishes 8 reports 10) ≡ done (1, 8, false, 10, some (10, 0)))
     × (after-round-0 0 starts 2 finishes 8 reports 10 starts 12 ≡ refused 8)
+    × (after-round-0 0 starts 2 finishes 8 reports 10 closes round-10 reports 15 starts 15 ≡ refused 8)
+    × (seen (after-round-0 0 starts 2 finishes 8 reports 21 starts 21) ≡ done (1, 8, true, 21, some (21, 1)))
     × (seen (after-round-0 0 starts 2 finishes 8 reports 10 closes round-at 10 [] (nodes (sends 1 8 0) none none) starts 30) ≡ done (1, 8, true, 30, none))
 unfolding all
-lock-edges = (refl, refl, refl, refl, refl, refl)
+lock-edges = (refl, refl, refl, refl, refl, refl, refl, refl)
 
 -- Node 1 after P5's round 12, which lifted O to 2: the order is 1, 2, 0.
 abbrev after-round-12 : Answer Node
 after-round-12 = after-round-0 1 starts 2 reports 12 closes round-12
 
--- A node with nothing done, over a common record whose position 1 holds a job of task 2 that is due to end at 130.
+-- A node that has done position 1, a job of task 0, over a common record whose position 2 holds a job of task 2: projection(1) is 100, projection(2) is 130.
 abbrev idle-at : ℕ → List ℕ → Answer Node
-idle-at O E = done (record { number = 0; common = common (2 ∷ []) 0 100 O E none; progress = 0; completed = 0; running = false; latest = 0; round = none })
+idle-at O E =
+    done (record { number = 0; common = common (0 ∷ 2 ∷ []) 0 90 O E none; progress = 1; completed = 50; running = false; latest = 50; round = none })
 
 -- "≤ O": with a round open past the lock, 1, and with none where the bound is broken; 9 "with the lowest-numbered task that breaks it".
 up-to-O :
     (seen (after-round-12 finishes 14 reports 20) ≡ done (1, 14, false, 20, some (20, 0)))
     × (seen (after-round-12 finishes 14 reports 20 starts 20) ≡ done (1, 14, true, 20, some (20, 0)))
-    × (seen (idle-at 1 [] starts 0) ≡ done (0, 0, true, 0, none))
-    × (idle-at 0 [] starts 0 ≡ refused-by 9 0)
-    × (idle-at 0 [] starts 89 ≡ refused-by 9 0)
-    × (seen (idle-at 0 [] starts 90) ≡ done (0, 0, true, 90, none))
-    × (idle-at 0 (90 ∷ 79 ∷ []) starts 0 ≡ refused-by 9 1)
-    × (seen (idle-at 0 (90 ∷ 80 ∷ []) starts 0) ≡ done (0, 0, true, 0, none))
+    × (seen (idle-at 2 [] starts 50) ≡ done (1, 50, true, 50, none))
+    × (idle-at 1 [] starts 50 ≡ refused-by 9 0)
+    × (idle-at 1 [] starts 89 ≡ refused-by 9 0)
+    × (seen (idle-at 1 [] starts 90) ≡ done (1, 50, true, 90, none))
+    × (idle-at 1 (90 ∷ 79 ∷ []) starts 50 ≡ refused-by 9 1)
+    × (seen (idle-at 1 (90 ∷ 80 ∷ []) starts 50) ≡ done (1, 50, true, 50, none))
 unfolding all
 up-to-O = (refl, refl, refl, refl, refl, refl, refl, refl)
 
 -- Run "is also 1 if position progress + 1 exists, is ≤ O or within the bound at r, and projection(progress) < r + timeout. Otherwise it is 0." Up to O and with
--- projection(1) 22 it turns at 21; past O it turns with the bound, here at 22 with a slack of 30; and it is 1 where a job runs, whatever the projection.
+-- projection(1) 22 it turns at 21; past O it turns with the bound, at 22 with a slack of 30, which at 99 forbids position 2 past O and not up to it; and it
+-- is 1 where a job runs, whatever the projection.
 abbrev run-at : Table → Answer Node → ℕ → Answer ℕ
 run-at tab a r = a >>= λ n. done ((report-of tab n r) .run)
 
@@ -166,9 +170,11 @@ run-rule :
     × (run-at canal (after-round-12 finishes 14 starts 15) 16 ≡ done 1)
     × (run-at tight (after-round-0 0 starts 2 finishes 8) 21 ≡ done 0)
     × (run-at tight (after-round-0 0 starts 2 finishes 8) 22 ≡ done 1)
+    × (run-at tight (idle-at 1 []) 99 ≡ done 0)
+    × (run-at tight (idle-at 2 []) 99 ≡ done 1)
     × (run-at canal (fresh-node canal 0) 100 ≡ done 0)
 unfolding all
-run-rule = (refl, refl, refl, refl, refl, refl)
+run-rule = (refl, refl, refl, refl, refl, refl, refl, refl)
 
 -- 12 "close with no round open, or another r"; 13 "own entry absent or not as sent"; "close 5, 12, 13, then 3, 14, 15": node 2 sent (1, 8, 0) at 10.
 abbrev sent-at-10 : Answer Node
