@@ -5,3 +5,4 @@ pub mod Told
 pub mod Elements
 pub mod Listing
 pub mod Parts
+pub mod Filling

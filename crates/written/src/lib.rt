@@ -2,3 +2,4 @@
 
 pub mod number; // number.rt: one number, read and written
 pub mod reader; // reader.rt: a record, read
+pub mod writer; // writer.rt: a record, written

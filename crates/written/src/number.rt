@@ -67,7 +67,7 @@ pub enum Written {
 // How many bytes a number takes.
 pub(crate) fn number_size(value: u64) -> usize
     requires { ⌜ value < 2 ^ 63 ⌝ }
-    ensures { λ r. ⌜ r ≡ length (number-bytes value) ⌝ }
+    ensures { λ r. ⌜ (r ≡ length (number-bytes value)) × (r ≤ 9) ⌝ }
 {
     let mut rest = value;
     let mut left: usize = 8;
@@ -78,10 +78,10 @@ pub(crate) fn number_size(value: u64) -> usize
     9 - left
 }
 
-// Stores a number that fits.
-pub(crate) fn put_number(bytes: &mut [u8], from: usize, value: u64)
+// Stores a number that fits, and gives the place past it.
+pub(crate) fn put_number(bytes: &mut [u8], from: usize, value: u64) -> usize
     requires { ⌜ (value < 2 ^ 63) × (from + length (number-bytes value) ≤ length (now bytes)) ⌝ }
-    ensures { λ _. ⌜ now (bytes .exit) ≡ sets (now (bytes .entry)) from (number-bytes value) ⌝ }
+    ensures { λ r. ⌜ (r ≡ from + length (number-bytes value)) × (now (bytes .exit) ≡ sets (now (bytes .entry)) from (number-bytes value)) ⌝ }
 {
     let mut rest = value;
     let mut left: usize = 8;
@@ -93,6 +93,7 @@ pub(crate) fn put_number(bytes: &mut [u8], from: usize, value: u64)
         at += 1;
     }
     bytes[at] = rest as u8;
+    at + 1
 }
 
 // Writes a number from a place on: 22, then 21, and a refusal leaves the bytes as they were.

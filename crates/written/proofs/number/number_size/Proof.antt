@@ -52,7 +52,7 @@ sub-result : tie.Need-sub-result Inv-loop μ-loop
 sub-result c = search needs
 
 returns : tie.Need-returns Inv-loop μ-loop
-returns c = search inv-done
+returns c = (search inv-done, omega arith)
 
 pub number-size-spec : {M : Type 1} → statement M
 number-size-spec =

@@ -17,10 +17,11 @@ record Inv (bytes₀ : List ℕ) (from value : ℕ) (bytes : List ℕ) (rest lef
   small : rest < 128 ^ suc left
   long : length bytes ≡ length bytes₀
   room : at + length (groups left rest) ≤ length bytes
+  size : at + length (groups left rest) ≡ from + length (number-bytes value)
   to-do : sets bytes₀ from (number-bytes value) ≡ sets bytes at (groups left rest)
 
 inv-start : {bytes : List ℕ} {from value : ℕ} → value < 2 ^ 63 → from + length (number-bytes value) ≤ length bytes → Inv bytes from value bytes value 8 from
-inv-start h r = record { small = h; long = refl; room = r; to-do = refl }
+inv-start h r = record { small = h; long = refl; room = r; size = refl; to-do = refl }
 
 module _ {bytes₀ : List ℕ} {from value : ℕ} {bytes : List ℕ} {rest left at : ℕ} (v : Inv bytes₀ from value bytes rest left at) where
   inv-left : 128 ≤ rest → 0 < left
@@ -40,11 +41,12 @@ module _ {bytes₀ : List ℕ} {from value : ℕ} {bytes : List ℕ} {rest left 
         small = next-fits left l (v .small);
         long = length-set bytes at _ ∙ v .long;
         room = rw length-set (omega (arith, v .room, ap length g));
+        size = omega (arith, v .size, ap length g);
         to-do = v .to-do ∙ rw (g, add-one at);
       }
 
-  inv-done : rest < 128 → set bytes at rest ≡ sets bytes₀ from (number-bytes value)
-  inv-done h = sym (v .to-do ∙ rw (one-group left rest h))
+  inv-done : rest < 128 → (at + 1 ≡ from + length (number-bytes value)) × (set bytes at rest ≡ sets bytes₀ from (number-bytes value))
+  inv-done h = (omega (arith, v .size, ap length (one-group left rest h)), sym (v .to-do ∙ rw (one-group left rest h)))
 
 abbrev Inv-loop : tie.InvT-loop
 Inv-loop bytes₀ from value rest₀ left₀ at₀ bytes rest left at = Inv bytes₀ from value bytes rest left at
@@ -82,11 +84,14 @@ cast-bytes-2 c = search needs
 slice-write-bytes-2 : tie.Need-slice-write-bytes-2 Inv-loop μ-loop
 slice-write-bytes-2 c = search inv-at-last
 
+add-result : tie.Need-add-result Inv-loop μ-loop
+add-result c = search needs
+
 same-length : tie.Need-same-length Inv-loop μ-loop
 same-length c = simp length-set (c .before .loop .inv .long)
 
 returns : tie.Need-returns Inv-loop μ-loop
-returns c = search inv-done
+returns c = inv-done (c .before .loop .inv) (c .loop-test .left)
 
 pub put-number-spec : {M : Type 1} → statement M
 put-number-spec =
@@ -104,5 +109,6 @@ put-number-spec =
     loop-again
     cast-bytes-2
     slice-write-bytes-2
+    add-result
     same-length
     returns)

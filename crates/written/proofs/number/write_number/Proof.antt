@@ -74,8 +74,8 @@ same-length c = search needs
 returns-4 : tie.Need-returns-4
 returns-4 c =
     let a = c .before .before .before .before .before .before .before .before .before .args in
-    let size = c .before .before .before .before .before .before .number-size .ensures in
-    fits (a .bytes .now) (a .from) (a .value) (omega arith) size (c .before .before .put-number .ensures) (omega arith) (omega arith)
+    let size = c .before .before .before .before .before .before .number-size .ensures .0 in
+    fits (a .bytes .now) (a .from) (a .value) (omega arith) size (c .before .before .put-number .ensures .1) (omega arith) (omega arith)
 
 pub write-number-spec : {M : Type 1} → statement M
 write-number-spec =
