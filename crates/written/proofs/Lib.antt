@@ -6,3 +6,5 @@ pub mod Elements
 pub mod Listing
 pub mod Parts
 pub mod Filling
+pub mod Settled
+pub mod Cases
