@@ -69,10 +69,10 @@ pub(crate) fn number_size(value: u64) -> usize
     requires { ⌜ value < 2 ^ 63 ⌝ }
     ensures { λ r. ⌜ (r ≡ length (number-bytes value)) × (r ≤ 9) ⌝ }
 {
-    let mut rest = value;
+    let mut above = value;
     let mut left: usize = 8;
-    while 128 <= rest {
-        rest /= 128;
+    while 128 <= above {
+        above /= 128;
         left -= 1;
     }
     9 - left

@@ -47,7 +47,7 @@ module _ (s : List ℕ) (from v : ℕ) where
 returns : tie.Need-returns
 returns c =
     let a = c .before .before .args in
-    large (a .bytes .now) (a .from) (a .value) (c .if1 .taken)
+    search (large (a .bytes .now) (a .from) (a .value))
 
 number-size-requires : tie.Need-number-size-requires
 number-size-requires c κs = search needs
