@@ -2,7 +2,7 @@
 use mathlib.Core.Path.{_≡_}
 use mathlib.Core.Bool.{Bool, true, false}
 use mathlib.Core.List.{List}
-use Prim.Native.Nat.{ℕ, _+_, _^_, _≤_, _<_, min}
+use Prim.Native.Nat.{ℕ, _+_, _≤_, _<_, min}
 use native.Mathlib.Omega.{arith}
 use borrow.Author.Tests.{lt-ltb, le-ltb}
 use lib.ListN.{getD}
@@ -10,8 +10,8 @@ use Rattle.laws.specs.Tests.{_<?_}
 use Rattle.laws.specs.Search.{lowest}
 use Rattle.laws.specs.Sums.{total}
 use Rattle.laws.specs.Lists.{rows}
-use Rattle.laws.proofs.Sequences.{sum-next, sum-below, lowest-within}
-use Rattle.common.specs.Raw.{earliest-of, projected-at, breaker-at, Summable}
+use Rattle.laws.proofs.Sequences.{sum-next, lowest-within}
+use Rattle.common.specs.Raw.{earliest-of, projected-at, breaker-at}
 
 module _ (longest tasks : List ℕ) (start : ℕ) where
   pub projected-none : projected-at longest tasks start 0 ≡ start
@@ -21,11 +21,6 @@ module _ (longest tasks : List ℕ) (start : ℕ) where
   pub projected-next : (k : ℕ) → projected-at longest tasks start (k + 1) ≡ projected-at longest tasks start k + getD longest (getD tasks k 0) 0
   unfolding projected-at
   projected-next k = omega (arith, sum-next (λ (k : ℕ). getD longest (getD tasks k 0) 0) k)
-
-  -- no sum of the first n wraps
-  pub projected-below : {n : ℕ} → Summable longest tasks start n → projected-at longest tasks start n < 2 ^ 50
-  unfolding projected-at
-  projected-below {n} s = omega (arith, sum-below (λ (k : ℕ). getD longest (getD tasks k 0) 0) 4294967295 n (s .small), s .few, s .soon)
 
 module _ (earliest slack : List ℕ) (end t : ℕ) where
   -- task i breaks the bound for a job that ends then

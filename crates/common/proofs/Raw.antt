@@ -10,13 +10,13 @@ use Rattle.laws.proofs.Search.{lowest-same}
 use Rattle.laws.proofs.Sequences.{rows-take, rows-same}
 use Rattle.rules.specs.Table.{task, Task}
 use Rattle.rules.specs.Common as rules
+use Rattle.rules.proofs.Projecting.{projection-below}
 use Rattle.table.specs.Table.{tableOf, Checked}
 use Rattle.table.specs.declared.Table.{Table}
-use Rattle.table.proofs.Facts.{tasks-count, task-row, ranges}
+use Rattle.table.proofs.Facts.{tasks-count, task-row, checked-fit, ranges}
 use Rattle.common.specs.declared.Common.{Common}
 use Rattle.common.specs.Common.{commonOf, Given}
 use Rattle.common.specs.Raw.{earliest-of, projected-at, breaker-at, Summable, Boundable}
-use Rattle.common.proofs.Arrays.{projected-below}
 use Rattle.common.proofs.Records.{kept-count, job-there, numbers}
 
 pub earliest-raw : (c : Common) (i time : ℕ) → rules.earliest (commonOf c) i time ≡ earliest-of (c .earliest) i time
@@ -60,6 +60,5 @@ module _ {t : Table} {c : Common} (k : Checked t) (g : Given t c) where
   pub boundable : (time : ℕ) → time < 2 ^ 49 → Boundable (c .earliest) (t .slack) (t .count) time
   boundable time h = record { few = ranges k .few; soon = λ i l. numbers g .earliest i; small = ranges k .slack; time = h }
 
-  pub projection-small : (p : ℕ) → p ≤ c .base + c .count → rules.projection (tableOf t) (commonOf c) p < 2 ^ 50
-  projection-small p h =
-      rw (projection-raw g p h) (projected-below (t .longest) (c .tasks) (c .start) (summable (p - c .base) (omega arith)))
+  pub projection-small : (p : ℕ) → rules.projection (tableOf t) (commonOf c) p < 2 ^ 50
+  projection-small p = projection-below (checked-fit k) (g .sound) p

@@ -3,17 +3,17 @@ use mathlib.Core.Path.{_≡_, refl, sym, ap, _∙_, subst}
 use mathlib.Core.Bool.{Bool, true, false}
 use mathlib.Core.Option.{Option, none, some}
 use mathlib.Core.List.{List, [], _∷_, map}
-use Prim.Native.Nat.{ℕ, zero, suc, _+_, _-_, _^_, _≤_, _<_}
+use Prim.Native.Nat.{ℕ, _+_, _-_, _^_, _≤_, _<_}
 use native.Mathlib.Omega.{arith}
-use lib.ListN.{length, take, getD, replicate, length-map, List·getD-map}
+use lib.ListN.{length, take, getD, length-map, List·getD-map}
 use lib.Seq.{getD-take}
 use Rattle.laws.specs.Tests.{if_then_else_, found, maybe}
 use Rattle.laws.specs.Lists.{pad}
-use Rattle.laws.proofs.Tests.{none≢some}
 use Rattle.laws.proofs.Lists.{take-pad, length-pad}
 use Rattle.rules.specs.Common as rules
 use Rattle.rules.specs.Sound.{Sound}
 use Rattle.rules.proofs.Ranges.{L-below}
+use Rattle.rules.proofs.Closing.{fresh-sound}
 use Rattle.table.specs.Table.{tableOf}
 use Rattle.table.specs.declared.Table.{Table}
 use Rattle.table.proofs.Facts.{tasks-count}
@@ -94,20 +94,5 @@ module _ {t : Table} {c : Common} (g : Given t c) where
   }
 
 -- "At the start all are 0 and no round has been."
-zero-there : (n i : ℕ) → _≡_ {A = ℕ} (getD (replicate n 0) i 0) 0
-zero-there zero i = refl
-zero-there (suc n) zero = refl
-zero-there (suc n) (suc i) = zero-there n i
-
 pub given-fresh : (t : Table) → Given t (common-as rules.fresh)
-given-fresh t = given {t = t} {k = rules.fresh} (record {
-  base = omega arith;
-  offset = omega arith;
-  few = omega arith;
-  known = λ k h. absurd (omega arith);
-  places = refl;
-  released = omega arith;
-  E-below = λ i. omega (arith, zero-there 64 i);
-  W-below = omega arith;
-  last-below = λ l e. none≢some e;
-})
+given-fresh t = given (fresh-sound (tableOf t))

@@ -59,16 +59,16 @@ out-of-range-requires : tie.Need-out-of-range-requires Inv-loop μ-loop
 out-of-range-requires c κs = search needs
 
 returns : tie.Need-returns Inv-loop μ-loop
-returns c = search refused-out
+returns c = refused-out (c .before .before .args .t1) (c .before .out-of-range .ensures) (c .if1 .taken)
 
 loop-holds : tie.Need-loop-holds Inv-loop μ-loop
-loop-holds c = search inv-start
+loop-holds c = inv-start (c .before .before .args .t1) (c .before .out-of-range .ensures) (c .if1 .left)
 
 keeps-at-requires : tie.Need-keeps-at-requires Inv-loop μ-loop
 keeps-at-requires c κs = search needs
 
 returns-2 : tie.Need-returns-2 Inv-loop μ-loop
-returns-2 c = search inv-broken
+returns-2 c = let b = c .before .before .before .before .before .before .before in inv-broken (b .before .loop .inv) (b .loop-test .taken) (c .before .keeps-at .ensures) (c .if2 .taken)
 
 add-i : tie.Need-add-i Inv-loop μ-loop
 add-i c = search needs
@@ -77,10 +77,10 @@ loop-less : tie.Need-loop-less Inv-loop μ-loop
 loop-less c = search needs
 
 loop-again : tie.Need-loop-again Inv-loop μ-loop
-loop-again c = search inv-next
+loop-again c = let b = c .before .before .before .before .before .before .before in inv-next (b .before .loop .inv) (b .loop-test .taken) (c .before .keeps-at .ensures) (c .if2 .left)
 
 returns-3 : tie.Need-returns-3 Inv-loop μ-loop
-returns-3 c = search inv-end
+returns-3 c = inv-end (c .before .loop .inv) (c .loop-test .left)
 
 pub check-table-spec : {M : Type 1} → statement M
 check-table-spec =
