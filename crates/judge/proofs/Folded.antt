@@ -1,12 +1,12 @@
 -- The passes over the entries of a round, each with its class, give what the rules give.
-use mathlib.Core.Path.{_≡_, refl, sym, ap, ap₂, _∙_}
-use mathlib.Core.Bool.{Bool, true, false, _||_}
+use mathlib.Core.Path.{_≡_, refl, ap, _∙_}
+use mathlib.Core.Bool.{Bool, true, false}
 use mathlib.Core.Option.{Option, none, some}
 use mathlib.Core.List.{List, [], _∷_, map, foldr}
-use Prim.Native.Nat.{ℕ, zero, suc, _+_, _≤_, _<_, max, min}
+use Prim.Native.Nat.{ℕ, zero, suc, _+_, _<_, max}
 use native.Mathlib.Omega.{arith}
-use lib.ListN.{length, getD, take, length-map, List·getD-map}
-use Rattle.laws.specs.Tests.{_=?_, if_then_else_, found, maybe}
+use lib.ListN.{length, getD, length-map}
+use Rattle.laws.specs.Tests.{if_then_else_, found, maybe}
 use Rattle.laws.specs.Search.{lowest, number-of}
 use Rattle.laws.proofs.Folds.{foldr-map, foldr-same}
 use Rattle.laws.proofs.Search.{lowest-same}

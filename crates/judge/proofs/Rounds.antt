@@ -1,15 +1,15 @@
 -- A round judged by the passes is judged as the rules say.
-use mathlib.Core.Path.{_≡_, refl, sym, ap, ap₂, _∙_}
+use mathlib.Core.Path.{_≡_, sym, ap, ap₂, _∙_}
 use mathlib.Core.Bool.{Bool}
 use mathlib.Core.Option.{Option}
 use mathlib.Core.List.{List, map, foldr}
-use Prim.Native.Nat.{ℕ, _+_, _/_, _≤_, _<_}
+use Prim.Native.Nat.{ℕ, _+_, _/_, _≤_}
 use native.Mathlib.Omega.{arith}
 use mir.Val.{Fits}
 use mir.Syntax.{w64}
 use lib.ListN.{length, take, length-map}
 use lib.Seq.{length-take-le}
-use Rattle.laws.specs.Tests.{_≤?_, _=?_, if_then_else_}
+use Rattle.laws.specs.Tests.{_≤?_, if_then_else_}
 use Rattle.laws.specs.Search.{number-of}
 use Rattle.laws.specs.Lists.{pad}
 use Rattle.laws.proofs.Lists.{take-pad}
@@ -25,7 +25,6 @@ use Rattle.common.proofs.Records as record-of
 use Rattle.round.specs.declared.Place.{Place}
 use Rattle.round.specs.declared.Round.{Round}
 use Rattle.round.specs.Round.{entryOf, entriesOf, roundOf, no-entry}
-use Rattle.judge.specs.declared.Judgement.{Judgement}
 use Rattle.judge.specs.declared.class.Before.{Before}
 use Rattle.judge.specs.declared.passes.Classed.{Classed}
 use Rattle.judge.specs.declared.passes.Back.{Back}

@@ -27,6 +27,7 @@ pub struct Judgement {
     pub offset: u64,
 }
 
+// "The values of B, W, O, L, E before the round are used."
 fn before_round(t: Table, c: Common, time: u64) -> Before
     ensures { λ r. ⌜ r ≡ before t c time ⌝ }
 {
@@ -52,7 +53,7 @@ pub fn judge_entry(t: Table, c: Common, time: u64, entry: Entry) -> u8
     class::class_of(&t.longest, &t.slack, &c.tasks, &c.earliest, b, entry)
 }
 
-// A round judged by the values before it: of the records nothing is changed.
+// How a round is judged: each entry's class, then what the passes over them give. The records come and go by value, so none is changed.
 pub fn judge_round(t: Table, c: Common, q: Round) -> Judgement
     requires { ⌜ Ready t c q ⌝ }
     ensures { λ r. ⌜ r ≡ judgement (tableOf t) (commonOf c) (roundOf q) ⌝ }

@@ -4,14 +4,6 @@ use Rattle.judge.proofs.Rounds.{few, ready-judgeable, length-fits, judg
 use borrow.Author.Needs.{needs}
 use Rattle.judge.proofs.judge_round.Statement.{statement}
 use Rattle.judge.proofs.judge_round.Tie as tie
-use Rattle.judge.proofs.judge_round.Reads as reads
-use Rattle.judge.proofs.judge_round.Lts as lts
-use Rattle.judge.proofs.before_round.Reads as before-round-reads
-use Rattle.judge.proofs.entries.judge_entries.Reads as judge-entries-reads
-use Rattle.judge.proofs.passes.back_runner.Reads as back-runner-reads
-use Rattle.judge.proofs.passes.classes_of.Reads as classes-of-reads
-use Rattle.judge.proofs.passes.has_majority.Reads as has-majority-reads
-use Rattle.judge.proofs.passes.new_offset.Reads as new-offset-reads
 
 before-round-requires : tie.Need-before-round-requires
 before-round-requires c κs = search needs

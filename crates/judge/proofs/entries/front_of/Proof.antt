@@ -1,7 +1,7 @@
 -- `entries::front_of` meets its contract. Assumes nothing.
 use mathlib.Core.Path.{_≡_, sym, _∙_}
 use mathlib.Core.Bool.{Bool, true, false}
-use Prim.Native.Nat.{ℕ, _+_, _^_, _<_}
+use Prim.Native.Nat.{ℕ, _^_, _<_}
 use native.Mathlib.Omega.{arith}
 use mir.Val.{Fits}
 use mir.Syntax.{w64}
@@ -10,9 +10,6 @@ use Rattle.judge.specs.Classed.{in-front}
 use borrow.Author.Needs.{needs}
 use Rattle.judge.proofs.entries.front_of.Statement.{statement}
 use Rattle.judge.proofs.entries.front_of.Tie as tie
-use Rattle.judge.proofs.entries.front_of.Reads as reads
-use Rattle.judge.proofs.entries.front_of.Lts as lts
-use Rattle.judge.proofs.passes.counts.Reads as counts-reads
 
 module _ (k n : ℕ) {t : Bool} (p : t ≡ in-front k) where
   sum-fits : t ≡ true → (in-front k ≡ true → n < 2 ^ 56) → Fits w64 n

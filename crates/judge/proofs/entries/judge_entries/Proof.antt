@@ -1,19 +1,14 @@
 -- `entries::judge_entries` meets its contract. The invariant: the entries below `i` are judged. Assumes nothing.
-use mathlib.Core.Path.{refl}
 use Prim.Native.Nat.{_-_}
 use native.Mathlib.Omega.{arith}
 use borrow.Author.Needs.{needs}
 use Rattle.laws.proofs.Lists.{length-of-map}
 use Rattle.laws.proofs.Folds.{Filled, fill-start, fill-next, fill-end}
-use Rattle.round.specs.Round.{entryOf, no-entry}
+use Rattle.round.specs.Round.{entryOf}
 use Rattle.judge.specs.Classed.{no-class}
 use Rattle.judge.specs.Lent.{classed-at}
 use Rattle.judge.proofs.entries.judge_entries.Statement.{statement}
 use Rattle.judge.proofs.entries.judge_entries.Tie as tie
-use Rattle.judge.proofs.entries.judge_entries.Reads as reads
-use Rattle.judge.proofs.entries.judge_entries.Lts as lts
-use Rattle.judge.proofs.entries.with_class.Reads as with-class-reads
-use Rattle.judge.proofs.entries.none_classed.Reads as none-classed-reads
 
 abbrev Inv-loop : tie.InvT-loop
 Inv-loop longest slack tasks earliest b n entries all₀ i₀ all i =

@@ -3,8 +3,6 @@ use mathlib.Core.Path.{refl}
 use Rattle.laws.specs.Lists.{pad}
 use Rattle.judge.proofs.entries.none_classed.Statement.{statement}
 use Rattle.judge.proofs.entries.none_classed.Tie as tie
-use Rattle.judge.proofs.entries.none_classed.Reads as reads
-use Rattle.judge.proofs.entries.none_classed.Lts as lts
 
 returns : tie.Need-returns
 unfolding pad

@@ -1,28 +1,21 @@
 -- `entries::with_class` meets its contract, field by field. Assumes nothing.
-use mathlib.Core.Path.{_≡_, refl, sym, ap, ap₂, _∙_}
+use mathlib.Core.Path.{_≡_, sym, ap, ap₂, _∙_}
 use mathlib.Core.Bool.{true}
 use mathlib.Core.List.{List}
 use mathlib.Core.Option.{Option}
-use Prim.Native.Nat.{ℕ, _+_, _^_, _≤_, _<_}
+use Prim.Native.Nat.{ℕ, _+_, _^_, _<_}
 use native.Mathlib.Omega.{arith}
 use Rattle.laws.specs.Tests.{if_then_else_}
 use Rattle.rules.specs.Judge as rules
 use Rattle.round.specs.declared.Report.{Report}
 use Rattle.round.specs.Round.{reportOf, report-as}
 use Rattle.judge.specs.declared.class.Before.{Before}
-use Rattle.judge.specs.declared.passes.Classed.{Classed}
 use Rattle.judge.specs.Classed.{in-front}
 use Rattle.judge.specs.Lent.{class-at, start-at, classed-at, Judgeable}
 use Rattle.judge.proofs.Lent.{counted-within}
 use borrow.Author.Needs.{needs}
 use Rattle.judge.proofs.entries.with_class.Statement.{statement}
 use Rattle.judge.proofs.entries.with_class.Tie as tie
-use Rattle.judge.proofs.entries.with_class.Reads as reads
-use Rattle.judge.proofs.entries.with_class.Lts as lts
-use Rattle.judge.proofs.class.class_of.Reads as class-of-reads
-use Rattle.judge.proofs.entries.front_of.Reads as front-of-reads
-use Rattle.judge.proofs.entries.numbers_of.Reads as numbers-of-reads
-use Rattle.judge.proofs.entries.start_of.Reads as start-of-reads
 
 module _ (longest slack tasks earliest : List ℕ) (b : Before) (x : Option rules.Report) {k : ℕ} {e : Report}
     (p : k ≡ class-at longest slack tasks earliest b x)

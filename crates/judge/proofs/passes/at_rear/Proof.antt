@@ -2,8 +2,6 @@
 use borrow.Author.Tests.{eq-eqb, ne-eqb}
 use Rattle.judge.proofs.passes.at_rear.Statement.{statement}
 use Rattle.judge.proofs.passes.at_rear.Tie as tie
-use Rattle.judge.proofs.passes.at_rear.Reads as reads
-use Rattle.judge.proofs.passes.at_rear.Lts as lts
 
 returns : tie.Need-returns
 returns c = simp (eq-eqb _ _ (c .before .if1 .taken))

@@ -1,27 +1,16 @@
 -- `passes::back_runner` meets its contract: the zeros below the lowest bit are the lowest-numbered node. Assumes nothing.
-use mathlib.Core.Path.{_≡_, refl, sym, ap, _∙_}
+use mathlib.Core.Path.{_≡_, sym, _∙_}
 use mathlib.Core.List.{List, foldr}
-use mathlib.Core.Option.{Option, none, some}
 use Prim.Native.Nat.{ℕ, _≤_, max}
 use native.Mathlib.Omega.{arith}
-use mir.Val.{Fits}
-use mir.Syntax.{w64}
 use lib.Count.{trailingZeros, trailing-le}
-use lib.ListN.{length, getD, take, length-take}
-use Rattle.laws.specs.Tests.{maybe}
-use Rattle.laws.specs.Search.{lowest}
+use lib.ListN.{length, length-take}
 use Rattle.laws.proofs.Folds.{bits, none-bits, some-bits}
 use Rattle.judge.specs.declared.passes.Classed.{Classed}
 use Rattle.judge.specs.Classed.{no-class, rear-step, start-step, is-back, back-of}
 use borrow.Author.Needs.{needs}
 use Rattle.judge.proofs.passes.back_runner.Statement.{statement}
 use Rattle.judge.proofs.passes.back_runner.Tie as tie
-use Rattle.judge.proofs.passes.back_runner.Reads as reads
-use Rattle.judge.proofs.passes.back_runner.Lts as lts
-use Rattle.judge.proofs.passes.back_set.Reads as back-set-reads
-use Rattle.judge.proofs.passes.larger.Reads as larger-reads
-use Rattle.judge.proofs.passes.largest_start.Reads as largest-start-reads
-use Rattle.judge.proofs.passes.least_progress.Reads as least-progress-reads
 
 module _ (B W L : ℕ) (l : List Classed) {least latest set : ℕ}
     (p : least ≡ foldr rear-step L l)

@@ -3,13 +3,9 @@ use native.Mathlib.Omega.{arith}
 use borrow.Author.Needs.{needs}
 use Rattle.laws.proofs.Lists.{length-of-map}
 use Rattle.laws.proofs.Folds.{Gathered, gather-start, gather-small, gather-next, gather-end}
-use Rattle.judge.specs.Classed.{is-back, no-class}
+use Rattle.judge.specs.Classed.{is-back}
 use Rattle.judge.proofs.passes.back_set.Statement.{statement}
 use Rattle.judge.proofs.passes.back_set.Tie as tie
-use Rattle.judge.proofs.passes.back_set.Reads as reads
-use Rattle.judge.proofs.passes.back_set.Lts as lts
-use Rattle.judge.proofs.passes.reaches.Reads as reaches-reads
-use Rattle.judge.proofs.passes.set_with.Reads as set-with-reads
 
 abbrev Inv-loop : tie.InvT-loop
 Inv-loop n least latest all set₀ i₀ set i = Gathered (is-back least latest) all n i set

@@ -9,8 +9,6 @@ use Rattle.laws.proofs.Folds.{Filled, fill-start, fill-next, fill-end}
 use Rattle.judge.specs.Classed.{class-in, no-class}
 use Rattle.judge.proofs.passes.classes_of.Statement.{statement}
 use Rattle.judge.proofs.passes.classes_of.Tie as tie
-use Rattle.judge.proofs.passes.classes_of.Reads as reads
-use Rattle.judge.proofs.passes.classes_of.Lts as lts
 
 abbrev Inv-loop : tie.InvT-loop
 Inv-loop n all classes₀ i₀ classes i = Filled class-in 15 0 all n i classes

@@ -2,8 +2,6 @@
 use borrow.Author.Tests.{eq-eqb, ne-eqb}
 use Rattle.judge.proofs.passes.counts.Statement.{statement}
 use Rattle.judge.proofs.passes.counts.Tie as tie
-use Rattle.judge.proofs.passes.counts.Reads as reads
-use Rattle.judge.proofs.passes.counts.Lts as lts
 
 -- src/lib.rt:50:9
 returns : tie.Need-returns

@@ -3,13 +3,9 @@ use native.Mathlib.Omega.{arith}
 use borrow.Author.Needs.{needs}
 use Rattle.laws.proofs.Lists.{length-of-map}
 use Rattle.laws.proofs.Folds.{Gathered, gather-start, gather-small, gather-next, gather-end}
-use Rattle.judge.specs.Classed.{class-in, in-front, no-class}
+use Rattle.judge.specs.Classed.{class-in, in-front}
 use Rattle.judge.proofs.passes.front_set.Statement.{statement}
 use Rattle.judge.proofs.passes.front_set.Tie as tie
-use Rattle.judge.proofs.passes.front_set.Reads as reads
-use Rattle.judge.proofs.passes.front_set.Lts as lts
-use Rattle.judge.proofs.passes.counts.Reads as counts-reads
-use Rattle.judge.proofs.passes.set_with.Reads as set-with-reads
 
 abbrev Inv-loop : tie.InvT-loop
 Inv-loop n all set₀ i₀ set i = Gathered (λ x. in-front (class-in x)) all n i set

@@ -13,9 +13,6 @@ use Rattle.laws.proofs.Folds.{bits, ones-bits}
 use borrow.Author.Needs.{needs}
 use Rattle.judge.proofs.passes.has_majority.Statement.{statement}
 use Rattle.judge.proofs.passes.has_majority.Tie as tie
-use Rattle.judge.proofs.passes.has_majority.Reads as reads
-use Rattle.judge.proofs.passes.has_majority.Lts as lts
-use Rattle.judge.proofs.passes.front_set.Reads as front-set-reads
 
 ones-fit : {s : ℕ} → Fits w16 s → Fits w64 (ones s)
 ones-fit {s} f = record { fits = omega (arith, ones-le 16 s (f .fits)) }

@@ -3,12 +3,9 @@ use native.Mathlib.Omega.{arith}
 use borrow.Author.Needs.{needs}
 use Rattle.laws.proofs.Folds.{Folded, fold-start, fold-next, fold-end}
 use Rattle.laws.proofs.Lists.{length-of-map}
-use Rattle.judge.specs.Classed.{start-step, no-class}
+use Rattle.judge.specs.Classed.{start-step}
 use Rattle.judge.proofs.passes.largest_start.Statement.{statement}
 use Rattle.judge.proofs.passes.largest_start.Tie as tie
-use Rattle.judge.proofs.passes.largest_start.Reads as reads
-use Rattle.judge.proofs.passes.largest_start.Lts as lts
-use Rattle.judge.proofs.passes.later.Reads as later-reads
 
 abbrev Inv-loop : tie.InvT-loop
 Inv-loop n least all latest₀ i₀ latest i = Folded (start-step least) all n 0 i latest

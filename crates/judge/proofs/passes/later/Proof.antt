@@ -1,5 +1,5 @@
 -- `passes::later` meets its contract. Assumes nothing.
-use mathlib.Core.Path.{_≡_, sym, _∙_}
+use mathlib.Core.Path.{_≡_}
 use mathlib.Core.Bool.{Bool, true, false}
 use Prim.Native.Nat.{ℕ, max}
 use borrow.Author.Needs.{needs}
@@ -7,10 +7,6 @@ use Rattle.judge.specs.declared.passes.Classed.{Classed}
 use Rattle.judge.specs.Classed.{is-rear, start-step}
 use Rattle.judge.proofs.passes.later.Statement.{statement}
 use Rattle.judge.proofs.passes.later.Tie as tie
-use Rattle.judge.proofs.passes.later.Reads as reads
-use Rattle.judge.proofs.passes.later.Lts as lts
-use Rattle.judge.proofs.passes.at_rear.Reads as at-rear-reads
-use Rattle.judge.proofs.passes.larger.Reads as larger-reads
 
 module _ (x : Classed) (least latest : ℕ) {t : Bool} (e : t ≡ is-rear least x) where
   rear : t ≡ true → {r : ℕ} → r ≡ max (x .start) latest → r ≡ start-step least x latest

@@ -3,12 +3,9 @@ use native.Mathlib.Omega.{arith}
 use borrow.Author.Needs.{needs}
 use Rattle.laws.proofs.Folds.{Folded, fold-start, fold-next, fold-end}
 use Rattle.laws.proofs.Lists.{length-of-map}
-use Rattle.judge.specs.Classed.{rear-step, no-class}
+use Rattle.judge.specs.Classed.{rear-step}
 use Rattle.judge.proofs.passes.least_progress.Statement.{statement}
 use Rattle.judge.proofs.passes.least_progress.Tie as tie
-use Rattle.judge.proofs.passes.least_progress.Reads as reads
-use Rattle.judge.proofs.passes.least_progress.Lts as lts
-use Rattle.judge.proofs.passes.nearer.Reads as nearer-reads
 
 abbrev Inv-loop : tie.InvT-loop
 Inv-loop n length all least₀ i₀ least i = Folded rear-step all n length i least

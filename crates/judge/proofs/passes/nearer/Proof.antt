@@ -3,9 +3,6 @@ use borrow.Author.Needs.{needs}
 use borrow.Author.Tests.{eq-eqb, ne-eqb}
 use Rattle.judge.proofs.passes.nearer.Statement.{statement}
 use Rattle.judge.proofs.passes.nearer.Tie as tie
-use Rattle.judge.proofs.passes.nearer.Reads as reads
-use Rattle.judge.proofs.passes.nearer.Lts as lts
-use Rattle.judge.proofs.passes.smaller.Reads as smaller-reads
 
 returns : tie.Need-returns
 returns c = simp (ne-eqb _ _ (c .if1 .taken))

@@ -3,12 +3,9 @@ use native.Mathlib.Omega.{arith}
 use borrow.Author.Needs.{needs}
 use Rattle.laws.proofs.Folds.{Folded, fold-start, fold-next, fold-end}
 use Rattle.laws.proofs.Lists.{length-of-map}
-use Rattle.judge.specs.Classed.{front-step, no-class}
+use Rattle.judge.specs.Classed.{front-step}
 use Rattle.judge.proofs.passes.new_offset.Statement.{statement}
 use Rattle.judge.proofs.passes.new_offset.Tie as tie
-use Rattle.judge.proofs.passes.new_offset.Reads as reads
-use Rattle.judge.proofs.passes.new_offset.Lts as lts
-use Rattle.judge.proofs.passes.larger.Reads as larger-reads
 
 abbrev Inv-loop : tie.InvT-loop
 Inv-loop n offset all front₀ i₀ front i = Folded front-step all n offset i front

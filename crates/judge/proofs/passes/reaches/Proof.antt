@@ -1,5 +1,5 @@
 -- `passes::reaches` meets its contract. Assumes nothing.
-use mathlib.Core.Path.{_≡_, sym, _∙_}
+use mathlib.Core.Path.{_≡_}
 use mathlib.Core.Bool.{Bool, true, false}
 use Prim.Native.Nat.{ℕ}
 use borrow.Author.Needs.{needs}
@@ -8,9 +8,6 @@ use Rattle.judge.specs.declared.passes.Classed.{Classed}
 use Rattle.judge.specs.Classed.{is-rear, is-back}
 use Rattle.judge.proofs.passes.reaches.Statement.{statement}
 use Rattle.judge.proofs.passes.reaches.Tie as tie
-use Rattle.judge.proofs.passes.reaches.Reads as reads
-use Rattle.judge.proofs.passes.reaches.Lts as lts
-use Rattle.judge.proofs.passes.at_rear.Reads as at-rear-reads
 
 module _ (x : Classed) (least latest : ℕ) {t : Bool} (e : t ≡ is-rear least x) where
   rear : t ≡ true → (x .start =? latest) ≡ is-back least latest x

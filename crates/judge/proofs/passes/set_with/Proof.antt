@@ -3,8 +3,6 @@ use native.Mathlib.Omega.{arith}
 use borrow.Author.Needs.{needs}
 use Rattle.judge.proofs.passes.set_with.Statement.{statement}
 use Rattle.judge.proofs.passes.set_with.Tie as tie
-use Rattle.judge.proofs.passes.set_with.Reads as reads
-use Rattle.judge.proofs.passes.set_with.Lts as lts
 
 mul-result : tie.Need-mul-result
 mul-result c = search needs
