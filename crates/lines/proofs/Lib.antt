@@ -1,0 +1,6 @@
+-- Laws that the proofs of the functions share.
+pub mod Putting
+pub mod Decimal
+pub mod Jobs
+pub mod Printed
+pub mod Settled
