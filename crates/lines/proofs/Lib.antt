@@ -4,3 +4,4 @@ pub mod Decimal
 pub mod Jobs
 pub mod Printed
 pub mod Settled
+pub mod Classes

@@ -2,7 +2,7 @@
 use mathlib.Core.Path.{_≡_, sym, _∙_}
 use mathlib.Core.List.{List}
 use Prim.Native.Nat.{ℕ}
-use Rattle.lines.specs.Text.{Put, Front}
+use Rattle.lines.specs.Text.{Front}
 
 -- one law for the three lines, since their contracts differ in the text alone
 module _ {s xs s′ t′ : List ℕ} {r q : ℕ} (e : Front s xs s′ r) (d : Front s xs t′ q) where

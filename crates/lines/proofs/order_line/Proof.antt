@@ -1,14 +1,14 @@
 -- The word, the jobs, and the end of the line.
 use mathlib.Core.Path.{_≡_}
 use mathlib.Core.List.{List}
-use Prim.Native.Nat.{ℕ, _+_, _*_, _≤_}
+use Prim.Native.Nat.{ℕ, _*_, _≤_}
 use native.Mathlib.Omega.{arith}
+use borrow.Author.Needs.{needs}
 use lib.ListN.{length}
 use Rattle.rules.specs.Common.{Job}
 use Rattle.rules.specs.Session.{printed, order, ascii, jobs-from}
 use Rattle.lines.specs.Text.{Put, PutWithin, Front}
 use Rattle.lines.proofs.Putting.{put-then, put-front}
-use borrow.Author.Needs.{needs}
 use Rattle.lines.proofs.order_line.Statement.{statement}
 use Rattle.lines.proofs.order_line.Tie as tie
 

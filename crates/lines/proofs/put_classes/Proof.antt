@@ -1,5 +1,5 @@
 -- The classes put in one by one, a digit each.
-use mathlib.Core.Path.{_≡_, refl, sym, ap, _∙_}
+use mathlib.Core.Path.{_≡_, _∙_}
 use mathlib.Core.List.{List, map}
 use Prim.Native.Nat.{ℕ, _+_, _-_, _≤_, _<_}
 use native.Mathlib.Omega.{arith}
@@ -7,7 +7,6 @@ use borrow.Author.Needs.{needs}
 use lib.ListN.{length, take, set, getD, length-map, List·getD-map}
 use lib.Seq.{getD-take, length-take-le}
 use Rattle.lines.specs.Text.{Put, PutWithin}
-use Rattle.lines.specs.Lines.{Digits}
 use Rattle.lines.proofs.Putting.{Copying, copy-start, copy-here, copy-step, copy-end}
 use Rattle.lines.proofs.put_classes.Statement.{statement}
 use Rattle.lines.proofs.put_classes.Tie as tie

@@ -1,6 +1,6 @@
 -- The position and the task, a field each.
-use Rattle.lines.proofs.Jobs.{job-put}
 use borrow.Author.Needs.{needs}
+use Rattle.lines.proofs.Jobs.{job-put}
 use Rattle.rules.specs.Session.{ascii}
 use Rattle.lines.proofs.put_job.Statement.{statement}
 use Rattle.lines.proofs.put_job.Tie as tie

@@ -1,10 +1,10 @@
 -- The jobs put in one by one: those from k on are left, and each has taken at most 25 bytes.
-use mathlib.Core.Path.{_≡_, refl, sym, ap, _∙_}
+use mathlib.Core.Path.{_≡_, _∙_}
 use mathlib.Core.List.{List, []}
 use Prim.Native.Nat.{ℕ, _+_, _-_, _*_, _≤_, _<_}
 use native.Mathlib.Omega.{arith}
 use borrow.Author.Needs.{needs}
-use lib.ListN.{length, take, drop, getD, length-take, drop-of-length-le}
+use lib.ListN.{length, take, drop, getD, drop-of-length-le}
 use lib.Seq.{getD-take, length-take-le}
 use Rattle.rules.specs.Session.{jobs-from}
 use Rattle.lines.specs.Text.{PutWithin}

@@ -2,11 +2,11 @@
 use mathlib.Core.List.{List, _++_}
 use Prim.Native.Nat.{ℕ}
 use native.Mathlib.Omega.{arith}
+use borrow.Author.Needs.{needs}
 use Rattle.rules.specs.Session.{ascii, decimal}
 use Rattle.lines.specs.Text.{PutWithin}
 use Rattle.lines.specs.Lines.{numbers-text}
 use Rattle.lines.proofs.Putting.{put-behind}
-use borrow.Author.Needs.{needs}
 use Rattle.lines.proofs.put_numbers.Statement.{statement}
 use Rattle.lines.proofs.put_numbers.Tie as tie
 

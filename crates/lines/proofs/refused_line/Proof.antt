@@ -1,13 +1,13 @@
 -- The word and its number, and the end of the line.
-use Prim.Native.Nat.{ℕ, _≤_}
 use mathlib.Core.Path.{_≡_}
 use mathlib.Core.List.{List, _++_}
+use Prim.Native.Nat.{ℕ, _≤_}
 use native.Mathlib.Omega.{arith}
+use borrow.Author.Needs.{needs}
 use lib.ListN.{length}
 use Rattle.rules.specs.Session.{printed, refusal, ascii, decimal}
 use Rattle.lines.specs.Text.{Put, Front}
 use Rattle.lines.proofs.Putting.{put-then, put-front}
-use borrow.Author.Needs.{needs}
 use Rattle.lines.proofs.refused_line.Statement.{statement}
 use Rattle.lines.proofs.refused_line.Tie as tie
 

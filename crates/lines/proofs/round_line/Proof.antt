@@ -3,12 +3,12 @@ use mathlib.Core.Path.{_≡_}
 use mathlib.Core.List.{List, map}
 use Prim.Native.Nat.{ℕ, _+_, _≤_}
 use native.Mathlib.Omega.{arith}
+use borrow.Author.Needs.{needs}
 use lib.ListN.{length}
 use Rattle.rules.specs.Session.{ascii}
 use Rattle.lines.specs.Text.{Put, PutWithin, Front}
 use Rattle.lines.specs.Lines.{numbers-text, round-text}
 use Rattle.lines.proofs.Putting.{put-then, put-front}
-use borrow.Author.Needs.{needs}
 use Rattle.lines.proofs.round_line.Statement.{statement}
 use Rattle.lines.proofs.round_line.Tie as tie
 

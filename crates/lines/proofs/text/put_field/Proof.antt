@@ -2,12 +2,12 @@
 use mathlib.Core.List.{List, _++_}
 use Prim.Native.Nat.{ℕ, _+_, _^_, _≤_, _<_}
 use native.Mathlib.Omega.{arith}
+use borrow.Author.Needs.{needs}
 use lib.ListN.{length}
 use Rattle.rules.specs.Session.{decimal}
 use Rattle.lines.specs.Text.{Put, PutWithin}
 use Rattle.lines.proofs.Putting.{put-long, put-then}
 use Rattle.lines.proofs.Decimal.{length-decimal}
-use borrow.Author.Needs.{needs}
 use Rattle.lines.proofs.text.put_field.Statement.{statement}
 use Rattle.lines.proofs.text.put_field.Tie as tie
 
