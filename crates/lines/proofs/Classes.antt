@@ -2,9 +2,9 @@
 use mathlib.Core.Bool.{Bool}
 use mathlib.Core.Option.{Option, none, some}
 use mathlib.Core.List.{List, [], _∷_, _++_, map}
-use Prim.Native.Nat.{ℕ, zero, suc, _<_}
+use Prim.Native.Nat.{ℕ, zero, suc, _-_, _<_}
 use native.Mathlib.Omega.{arith}
-use lib.ListN.{getD, replicate}
+use lib.ListN.{length, getD, replicate}
 use Rattle.laws.specs.Tests.{if_then_else_}
 use Rattle.laws.specs.Lists.{pad}
 use Rattle.laws.proofs.Tests.{if-cases}
@@ -37,4 +37,4 @@ each-digit f h (x ∷ l) n (suc k) = each-digit f h l n k
 
 pub verdict-digits : (tab : Table) (c : Common) (q : Round) → Digits ((verdict tab c q) .classes)
 unfolding verdict pad
-verdict-digits tab c q = record { each = each-digit (class tab c (q .r)) (class-digit tab c (q .r)) (q .entries) _ }
+verdict-digits tab c q = record { each = each-digit (class tab c (q .r)) (class-digit tab c (q .r)) (q .entries) (15 - length (map (class tab c (q .r)) (q .entries))) }
