@@ -1,8 +1,8 @@
 -- The record after a round, from the arrays to the rules.
-use mathlib.Core.Path.{_≡_, refl, sym, ap, ap₂, _∙_}
+use mathlib.Core.Path.{_≡_, refl, sym, ap, _∙_}
 use mathlib.Core.Bool.{true}
 use mathlib.Core.List.{List, [], _∷_, map}
-use Prim.Native.Nat.{ℕ, _+_, _-_, _≤_, _<_}
+use Prim.Native.Nat.{ℕ, _+_, _-_}
 use native.Mathlib.Omega.{arith}
 use lib.ListN.{length, take, drop, length-drop, length-map}
 use Rattle.laws.specs.Lists.{pad}
@@ -13,7 +13,7 @@ use Rattle.round.specs.declared.Round.{Round}
 use Rattle.round.specs.Round.{releasesOf}
 use Rattle.judge.specs.declared.Judgement.{Judgement}
 use Rattle.release.specs.Insertion.{put-all, Packed, Room}
-use Rattle.close.specs.Close.{after, Judged, Fitting}
+use Rattle.close.specs.Close.{after, Fitting}
 use Rattle.release.proofs.Releases.{releases-count}
 use Rattle.release.proofs.Order.{packed-kept, packed-pad, put-all-long}
 

@@ -7,19 +7,19 @@ use mathlib.Core.Path.{_≡_, refl, sym, ap, ap₂, _∙_, subst}
 use mathlib.Core.Bool.{Bool, true, false}
 use mathlib.Core.Option.{Option, some}
 use mathlib.Core.List.{List, [], _∷_, map, foldl}
-use Prim.Native.Nat.{ℕ, _+_, _-_, _^_, _≤_, _<_}
+use Prim.Native.Nat.{ℕ, _+_, _-_}
 use native.Mathlib.Omega.{arith}
 use borrow.Author.Tests.{leb-false}
-use lib.ListN.{length, take, drop}
+use lib.ListN.{take, drop}
 use Rattle.laws.specs.Tests.{_<?_, if_then_else_}
 use Rattle.laws.specs.Lists.{pad}
 use Rattle.laws.proofs.Lists.{map-drop}
-use Rattle.rules.specs.Answer.{Answer, done, refused, refuse_if_else_}
+use Rattle.rules.specs.Answer.{done, refused, refuse_if_else_}
 use Rattle.rules.specs.Table.{Table}
-use Rattle.rules.specs.Common.{Job, Common, L}
+use Rattle.rules.specs.Common.{Job, Common}
 use Rattle.rules.specs.Judge.{Release, Round, new-B, new-O, new-W}
 use Rattle.rules.specs.Insert.{next-E, release, release-all}
-use Rattle.rules.specs.Close.{Closed, Verdict, too-late, too-soon, ill-formed, too-early, too-many, judged, applied, verdict, close}
+use Rattle.rules.specs.Close.{too-late, too-soon, ill-formed, too-early, too-many, judged, applied, verdict, close}
 use Rattle.rules.proofs.Judging.{B-rises, B-within, O-within}
 use Rattle.table.specs.declared.Table as table
 use Rattle.table.specs.Table.{tableOf, Checked}
@@ -29,7 +29,7 @@ use Rattle.common.specs.declared.Common as common
 use Rattle.common.specs.Common.{job-of, commonOf, common-as, Given}
 use Rattle.common.proofs.Records.{numbers, length-is}
 use Rattle.judge.specs.declared.Judgement.{Judgement}
-use Rattle.judge.specs.Judgement.{judgement}
+use Rattle.judge.specs.Judgement.{judgement, Ready}
 use Rattle.release.specs.declared.listing.Standing.{Standing}
 use Rattle.release.specs.declared.listing.Standing.the-variants.{Stands, Refused}
 use Rattle.release.specs.declared.spacing.Spaced.{Spaced}
@@ -40,7 +40,7 @@ use Rattle.release.specs.Spacing.{spacing}
 use Rattle.release.specs.Insertion.{put-in, put-all, Packed}
 use Rattle.close.specs.Trial.{trial, stopped}
 use Rattle.close.specs.Close.{closing, refusal, after, conclusion, Judged}
-use Rattle.release.proofs.Releases.{Soon, releases-count, few-listed, listable}
+use Rattle.release.proofs.Releases.{releases-count, few-listed, all-entered, listable}
 use Rattle.release.proofs.Order.{put-none, put-more, insert-is}
 use Rattle.close.proofs.Applied.{tasks-back}
 
@@ -160,8 +160,13 @@ module _ (t : table.Table) (c : common.Common) (q : round.Round) {s : Spaced} (e
     passed-all : Passed (tableOf t) (commonOf c) (roundOf q) (s .earliest)
     passed-all = says-of h
 
-    pub passed-list : Checked t → Listable t q
+    passed-list : Checked t → Listable t q
     passed-list k = record { checked = k; in-time = leb-false _ _ (passed-all .in-time); formed = passed-all .formed }
+
+    pub passed-ready : Checked t → Given t c → Ready t c q
+    passed-ready k g =
+        let v : Listable t q = passed-list k in
+        record { checked = k; given = g; time = v .in-time; entered = all-entered v }
 
     module _ (k : Checked t) (g : Given t c) {j : Judgement} (f : j ≡ judgement (tableOf t) (commonOf c) (roundOf q)) where
       pub judged-so : Judged c j q

@@ -1,5 +1,5 @@
 -- What a close answers by value, and the steps to it on the arrays. That they lead to the rules' close is proved in proofs/Applied.antt.
-use mathlib.Core.Bool.{Bool, true, false}
+use mathlib.Core.Bool.{false}
 use mathlib.Core.Option.{some}
 use mathlib.Core.List.{List, [], map}
 use Prim.Native.Nat.{ℕ, _+_, _-_, _^_, _≤_, _<_}
@@ -8,7 +8,7 @@ use Rattle.laws.specs.Tests.{_<?_, if_then_else_}
 use Rattle.laws.specs.Lists.{pad}
 use Rattle.rules.specs.Answer.{Answer, done, refused, refused-by}
 use Rattle.rules.specs.Common as rules
-use Rattle.rules.specs.Close.{Closed, Verdict}
+use Rattle.rules.specs.Close.{Closed}
 use Rattle.common.specs.declared.Common.{Common}
 use Rattle.common.specs.Common.{job-of, common-as}
 use Rattle.round.specs.declared.Round.{Round}

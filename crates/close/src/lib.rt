@@ -1,16 +1,23 @@
 // A round record applied to a common record: refusals 3, 14, 15, 16 and 17, and the close.
 ghost use mathlib.Core.Path.{_≡_};
 ghost use Rattle.rules.specs.Answer.{refused};
-ghost use Rattle.common.specs.Common.{common-as};
+ghost use Rattle.rules.specs.Close.{close};
+ghost use Rattle.table.specs.Table.{tableOf, Checked};
+ghost use Rattle.round.specs.Round.{roundOf};
+ghost use Rattle.common.specs.Common.{commonOf, common-as, Given};
 ghost use Rattle.close.specs.Close.{closing, Judged, Fitting, after, conclusion};
 
 mod trial;
 
 use common::Common;
 use judge::Judgement;
+use judge::judge_round;
 use release::insertion::all_put;
 use release::insertion::dropped;
+use release::listing::Standing;
 use round::Round;
+use table::Table;
+use trial::tried;
 
 // "A refusal gives its number and changes nothing."
 pub enum Outcome {
@@ -81,4 +88,19 @@ fn conclude(c: Common, j: Judgement, earliest: [u64; 64], q: Round) -> Closing
         back: j.back,
         majority: j.majority,
     }
+}
+
+// "then 3, 14, 15, 16, 17; a station begins at 3." Judging comes before 17, and before anything changes.
+pub fn close_round(t: Table, c: Common, q: Round) -> Closing
+    requires { ⌜ Checked t × Given t c ⌝ }
+    ensures { λ r. ⌜ r ≡ closing c (close (tableOf t) (commonOf c) (roundOf q)) ⌝ }
+{
+    let trial = tried(t, c, q);
+    let standing = trial.standing;
+    if let Standing::Refused(number) = standing {
+        return refuse(c, number);
+    }
+    let j = judge_round(t, c, q);
+    let earliest = trial.earliest;
+    conclude(c, j, earliest, q)
 }

@@ -3,15 +3,14 @@
 --     place-within, put-long, put-packed       one release
 --     put-none, put-more, put-all-long         a list, release by release
 --     insert-is                                the rules' insertion
-use mathlib.Core.Path.{_≡_, refl, sym, ap, ap₂, _∙_}
+use mathlib.Core.Path.{_≡_, refl, sym, ap, _∙_}
 use mathlib.Core.Bool.{not}
-use mathlib.Core.List.{List, [], _∷_, _++_, map, foldl}
-use Prim.Native.Nat.{ℕ, zero, suc, _+_, _-_, _≤_, _<_}
+use mathlib.Core.List.{List, [], _∷_, map}
+use Prim.Native.Nat.{ℕ, _+_, _-_, _≤_, _<_}
 use native.Mathlib.Omega.{arith}
-use lib.ListN.{length, take, drop, getD, length-take, length-drop, length-append}
+use lib.ListN.{length, take, drop, length-take, length-drop, length-append}
 use lib.Seq.{length-take-le}
 use Rattle.laws.specs.Tests.{_<?_}
-use Rattle.laws.specs.Search.{up-to-last}
 use Rattle.laws.specs.Lists.{pad, push-in}
 use Rattle.laws.proofs.Search.{up-to-last-le}
 use Rattle.laws.proofs.Lists.{length-pad, take-pad, pad-push, map-append, map-take, map-drop}

@@ -7,18 +7,18 @@
 --     early-none, early-bad, early-more          16 of a list, release by release
 use mathlib.Core.Path.{_≡_, refl, sym, ap, _∙_}
 use mathlib.Core.Bool.{Bool, true, false, _||_}
-use mathlib.Core.List.{List, [], _∷_, foldl}
+use mathlib.Core.List.{List, [], _∷_}
 use Prim.Native.Nat.{ℕ, zero, suc, _+_, _^_, _≤_, _<_}
 use native.Mathlib.Omega.{arith}
 use borrow.Author.Tests.{lt-ltb, le-ltb, le-leb, lt-leb, ltb-false, leb-false, eqb-true, not-false}
-use lib.ListN.{length, getD, set, drop, drop-of-length-le}
+use lib.ListN.{length, getD, drop, drop-of-length-le}
 use Rattle.laws.specs.Tests.{_<?_, _≤?_, if_then_else_, any-of}
 use Rattle.laws.specs.Lists.{rows}
 use Rattle.laws.proofs.Tests.{none-of}
 use Rattle.laws.proofs.Lists.{drop-here, length-rows, rows-at}
 use Rattle.table.specs.declared.Table as code
 use Rattle.table.specs.Table.{tableOf}
-use Rattle.table.proofs.Facts.{Ranges, ranges, tasks-count, task-row}
+use Rattle.table.proofs.Facts.{ranges, tasks-count, task-row}
 use Rattle.round.specs.declared.Round.{Round}
 use Rattle.round.specs.Round.{releaseOf, releasesOf, no-release, entryOf, entriesOf, no-entry}
 use Rattle.rules.specs.Table.{Task, Table, task}

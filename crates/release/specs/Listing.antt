@@ -1,6 +1,6 @@
 -- What each check of a list of releases answers.
 use mathlib.Core.Bool.{Bool, true, false}
-use mathlib.Core.List.{List, [], _∷_}
+use mathlib.Core.List.{[], _∷_}
 use mathlib.Core.Path.{_≡_}
 use Prim.Native.Nat.{ℕ, _^_, _<_}
 use Rattle.laws.specs.Tests.{_<?_, _≤?_, if_then_else_, any-of}

@@ -5,8 +5,7 @@ ghost use Prim.Native.Nat.{_≤_, _<_};
 ghost use lib.ListN.{take, drop};
 ghost use Rattle.laws.specs.Lists.{pad, push-in};
 ghost use Rattle.round.specs.Round.{releasesOf};
-ghost use Rattle.release.specs.Insertion.{place-in, put-in, put-all, Packed, Room};
-use round::Release;
+ghost use Rattle.release.specs.Insertion.{place-in, put-all, Packed, Room};
 use round::Round;
 
 // No job is kept.

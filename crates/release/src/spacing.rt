@@ -5,7 +5,6 @@ ghost use Rattle.table.specs.Table.{tableOf};
 ghost use Rattle.release.specs.Listing.{Listable};
 ghost use Rattle.release.specs.Spacing.{admission, spacing};
 use crate::listing::Standing;
-use round::Release;
 use round::Round;
 use table::Table;
 
@@ -37,6 +36,7 @@ pub fn all_spaced(t: Table, earliest: [u64; 64], q: Round) -> Spaced
 {
     let n = q.listed;
     let time = q.time;
+    let before = earliest;
     let mut next = earliest;
     let mut i = 0;
     while i < n {
@@ -46,7 +46,7 @@ pub fn all_spaced(t: Table, earliest: [u64; 64], q: Round) -> Spaced
         let Admit::At(at) = check else {
             return Spaced {
                 standing: Standing::Refused(16),
-                earliest,
+                earliest: before,
             };
         };
         next[task] = at + t.distance[task];

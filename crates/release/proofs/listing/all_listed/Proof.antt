@@ -1,7 +1,7 @@
 -- `listing::all_listed` meets its contract. The invariant: what is left of the list, after the delay last met, is as ill-listed as the whole.
 use mathlib.Core.Path.{_≡_, refl, sym, ap, _∙_}
 use mathlib.Core.Bool.{true, false}
-use mathlib.Core.List.{List, [], _∷_}
+use mathlib.Core.List.{_∷_}
 use Prim.Native.Nat.{ℕ, _+_, _-_, _≤_, _<_}
 use native.Mathlib.Omega.{arith}
 use borrow.Author.Needs.{needs}
@@ -20,9 +20,6 @@ use Rattle.release.specs.Listing.{listing, standing}
 use Rattle.release.proofs.Releases.{release-here, releases-end, listed-none, listed-bad, listed-more}
 use Rattle.release.proofs.listing.all_listed.Statement.{statement}
 use Rattle.release.proofs.listing.all_listed.Tie as tie
-use Rattle.release.proofs.listing.all_listed.Reads as reads
-use Rattle.release.proofs.listing.all_listed.Lts as lts
-use Rattle.release.proofs.listing.check_listed.Reads as check-listed-reads
 
 record Inv (q : Round) (n count timeout least i : ℕ) : Type 0 where
   long : length (q .releases) ≡ 64

@@ -1,6 +1,6 @@
 -- `spacing::all_spaced` meets its contract. The invariant: what is left of the list, from the E of those before it, is as early as the whole from the E at
 -- entry, and leaves the same E.
-use mathlib.Core.Path.{_≡_, refl, sym, ap, ap₂, _∙_}
+use mathlib.Core.Path.{_≡_, refl, sym, ap₂, _∙_}
 use mathlib.Core.Bool.{Bool, true, false}
 use mathlib.Core.List.{List, [], _∷_, foldl}
 use Prim.Native.Nat.{ℕ, _+_, _-_, _*_, _^_, _≤_, _<_}
@@ -18,15 +18,11 @@ use Rattle.round.specs.Round.{releaseOf, releasesOf, no-release}
 use Rattle.release.specs.declared.listing.Standing.the-variants as stand
 use Rattle.release.specs.declared.spacing.Admit.{Admit}
 use Rattle.release.specs.declared.spacing.Admit.the-variants.{At, Refused}
-use Rattle.release.specs.declared.spacing.Spaced.{Spaced}
 use Rattle.release.specs.Listing.{standing, Listable}
 use Rattle.release.specs.Spacing.{admission, spacing}
 use Rattle.release.proofs.Releases.{Soon, release-here, releases-end, few-listed, listable, early-none, early-bad, early-more}
 use Rattle.release.proofs.spacing.all_spaced.Statement.{statement}
 use Rattle.release.proofs.spacing.all_spaced.Tie as tie
-use Rattle.release.proofs.spacing.all_spaced.Reads as reads
-use Rattle.release.proofs.spacing.all_spaced.Lts as lts
-use Rattle.release.proofs.spacing.check_spaced.Reads as check-spaced-reads
 
 record Inv (t : Table) (q : Round) (earliest : List ℕ) (n time : ℕ) (next : List ℕ) (i : ℕ) : Type 0 where
   fit : Listable t q
@@ -109,10 +105,10 @@ module _ {t : Table} {q : Round} {earliest : List ℕ} {n time : ℕ} {next : Li
         }
 
 abbrev Inv-loop : tie.InvT-loop
-Inv-loop earliest t q n time next₀ i₀ next i = Inv t q earliest n time next i
+Inv-loop t q n time before next₀ i₀ next i = Inv t q before n time next i
 
 abbrev μ-loop : tie.MeasureT-loop
-μ-loop earliest t q n time next₀ i₀ next i = n - i
+μ-loop t q n time before next₀ i₀ next i = n - i
 
 loop-holds : tie.Need-loop-holds Inv-loop μ-loop
 loop-holds c = inv-start (c .pre) (search length-of-map) (search needs) (search needs)
@@ -166,7 +162,10 @@ loop-less : tie.Need-loop-less Inv-loop μ-loop
 loop-less c = search needs
 
 loop-again : tie.Need-loop-again Inv-loop μ-loop
-loop-again c = search inv-more
+loop-again c =
+    let check = c .before .before .before .before in
+    let turn = check .before .before .before in
+    inv-more (turn .before .loop .inv) (turn .loop-test .taken) (check .check-spaced .ensures) (c .before .before .check .given .1)
 
 returns-2 : tie.Need-returns-2 Inv-loop μ-loop
 returns-2 c = search inv-done
