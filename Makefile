@@ -1,11 +1,28 @@
-# make test: the gate. make run: the main job. make bench: measurements, no part of the gate.
-.PHONY: test run bench
+# make test: the gate. make run: proves and builds what it needs, and runs the worked canal.
+# make trials, make trials-selftest and make bench are no part of the gate; the gate has a short run of the trials.
+.PHONY: test run trials trials-selftest bench rust session
 
 test:
 	@./.ci/gate
 
-run:
-	@echo "There is no program to run yet: the session program comes with its own issue. 'make test' proves what is here."
+session:
+	@rt check session
 
-bench:
-	@echo "There is nothing to measure yet."
+rust:
+	@cargo build --quiet --offline --release --manifest-path rust/Cargo.toml
+
+# CANAL: any file of decimal numbers.
+CANAL ?= examples/worked-canal.txt
+run: session rust
+	@rust/target/release/pack $(CANAL) | target/bin/session
+
+# For longer: make trials TRIALS='--seed 7 --sessions 200000'
+TRIALS ?= --sessions 6000
+trials: session rust
+	@rust/target/release/trials --under target/bin/session $(TRIALS)
+
+trials-selftest: rust
+	@cd rust && target/release/trials-selftest
+
+bench: session rust
+	@cd rust && target/release/bench ../target/bin/session
