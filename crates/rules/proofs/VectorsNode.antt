@@ -56,8 +56,9 @@ steps :
     × (seen (after-round-0 2 starts 3 reports 10) ≡ done (0, 0, true, 10, some (10, 1)))
     × (seen (after-round-0 2 starts 3 reports 10 finishes 11 closes round-at 10 [] (nodes none none (sends 0 0 1))) ≡ done (1, 11, false, 12, none))
     × (seen (after-round-0 2 starts 3 reports 10 finishes 15 closes round-at 10 [] (nodes none none (sends 0 0 1))) ≡ done (1, 15, false, 15, none))
+    × (seen (after-round-0 2 reports 10 starts 15 closes round-at 10 [] (nodes none none (sends 0 0 1))) ≡ done (0, 0, true, 15, none))
 unfolding all
-steps = (refl, refl, refl, refl, refl, refl, refl, refl, refl)
+steps = (refl, refl, refl, refl, refl, refl, refl, refl, refl, refl)
 
 -- "A finish changes the node's own record and nothing beside it": nor does a start or a report; a close applies the record.
 abbrev held : Answer Node → Answer (ℕ × Common)

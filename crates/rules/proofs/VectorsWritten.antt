@@ -135,13 +135,16 @@ prints ns = output (bytes-of ns)
 abbrev small : List ℕ → List ℕ
 small records = 1 ∷ 2 ∷ 1 ∷ 10 ∷ 100 ∷ 100 ∷ 40 ∷ records
 
--- "Input that ends between two records ends the session, with the order line"; "blank between, or `order` alone".
+-- "Input that ends between two records ends the session, with the order line"; "position:task of each job kept, blank between, or `order` alone": from B + 1 on,
+-- also where O is past it.
 ends :
     (prints (small []) ≡ ascii "order\n")
     × (prints (small (0 ∷ 1 ∷ 0 ∷ 0 ∷ 1 ∷ 0 ∷ 100 ∷ 1 ∷ 0 ∷ 0 ∷ 1 ∷ 0 ∷ []))
     ≡ ascii "round 0 ipo 0 base 0 length 1 toc 0 nodes 1\nround 100 ipo 0 base 0 length 2 toc 0 nodes 1\norder 1:0 2:0\n")
+    × (prints (small (0 ∷ 1 ∷ 0 ∷ 0 ∷ 1 ∷ 1 ∷ 0 ∷ 0 ∷ 0 ∷ 10 ∷ 0 ∷ 1 ∷ 1 ∷ 0 ∷ 0 ∷ 1 ∷ []))
+    ≡ ascii "round 0 ipo 0 base 0 length 1 toc 2 nodes 0\nround 10 ipo 1 base 0 length 1 toc 2 nodes 0\norder 1:0\n")
 unfolding all
-ends = (refl, refl)
+ends = (refl, refl, refl)
 
 -- "A refusal prints `refused N` in place of the round line and stops, followed by the order line." A record is read whole before it is judged.
 stops :
