@@ -1,17 +1,17 @@
 -- What is read was written so: the bytes that a reading used are those that its result is written as.
 use mathlib.Core.Path.{_≡_, refl, sym, ap, _∙_}
-use mathlib.Core.Bool.{Bool, true, false, _||_, _&&_, true≢false}
-use mathlib.Core.Option.{Option, none, some}
+use mathlib.Core.Bool.{Bool, true, false, _&&_}
+use mathlib.Core.Option.{none}
 use mathlib.Core.List.{List, [], _∷_, _++_, foldr, append-assoc}
 use Prim.Native.Nat.{ℕ, zero, suc, _+_, _-_, _*_, _/_, _%_, _^_, _≤_, _<_}
-use native.Mathlib.Nat.{pow-suc, one-le-pow}
+use native.Mathlib.Nat.{pow-suc}
 use native.Mathlib.Omega.{arith}
 use lib.ListN.{length}
 use borrow.Author.Tests.{ltb-true, ltb-false, lt-ltb, le-ltb, eqb-true, eqb-false, lt-leb}
-use Rattle.laws.specs.Tests.{_<?_, _≤?_, _=?_, if_then_else_}
-use Rattle.rules.specs.Answer.{Answer, done, refused, refused-by, refuse_if_else_}
-use Rattle.rules.specs.Judge.{Report, Release, Round}
-use Rattle.rules.specs.Numbers.{Read, Reads, _>>=_, after, give, groups-after, number, groups, number-bytes}
+use Rattle.laws.specs.Tests.{_<?_, _=?_, if_then_else_}
+use Rattle.rules.specs.Answer.{done, refused, refuse_if_else_}
+use Rattle.rules.specs.Judge.{Round}
+use Rattle.rules.specs.Numbers.{Read, Reads, after, give, groups-after, number, groups, number-bytes}
 use Rattle.rules.specs.Written.{times, counted, read-release, read-report, read-entry, read-record, entry-numbers, numbers-of, bytes-of, too-large, record-bytes}
 use Rattle.rules.specs.RoundTrips.{Bytes}
 use Rattle.rules.proofs.Reading.{Gives, so, stop, gives-at, gives-all, gives-after, gives-refuse, gives-if}

@@ -2,7 +2,6 @@
 -- From a number to a record, each from its parts; and a session's rounds end with its input.
 use mathlib.Core.Path.{_≡_, refl, sym, ap, _∙_}
 use mathlib.Core.Bool.{Bool, true, false, _&&_}
-use mathlib.Core.Option.{Option, none, some}
 use mathlib.Core.List.{List, [], _∷_, _++_, append-assoc}
 use Prim.Native.Nat.{ℕ, zero, suc, _+_, _-_, _*_, _≤_, _<_}
 use native.Mathlib.Omega.{arith}
@@ -12,9 +11,9 @@ use Rattle.laws.specs.Tests.{_<?_, _=?_, if_then_else_}
 use Rattle.rules.specs.Answer.{Answer, done, refused, refused-by, refuse_if_else_}
 use Rattle.rules.specs.Table.{Table}
 use Rattle.rules.specs.Common.{Common}
-use Rattle.rules.specs.Judge.{Report, Release, Round}
-use Rattle.rules.specs.Close.{Closed, Verdict, close}
-use Rattle.rules.specs.Session.{Line, round, order-line, stopped, rounds}
+use Rattle.rules.specs.Judge.{Round}
+use Rattle.rules.specs.Close.{close}
+use Rattle.rules.specs.Session.{Line, round, stopped, rounds}
 use Rattle.rules.specs.Numbers.{Read, Reads, _>>=_, after, give, groups-after, number}
 use Rattle.rules.specs.Written.{times, counted, read-release, read-report, read-entry, read-record}
 use Rattle.rules.proofs.Answers.{refused≢done}

@@ -2,7 +2,7 @@
 use mathlib.Core.Path.{_≡_, refl, sym, ap, _∙_}
 use mathlib.Core.Bool.{Bool, true, false, _||_}
 use mathlib.Core.Option.{Option}
-use mathlib.Core.List.{List, [], _∷_, _++_}
+use mathlib.Core.List.{List, [], _++_}
 use Prim.Native.Nat.{ℕ, _+_, _-_, _*_, _^_, _≤_, _<_}
 use native.Mathlib.Omega.{arith}
 use borrow.Author.Tests.{le-ltb, lt-leb, ltb-false, leb-false}
@@ -14,12 +14,12 @@ use Rattle.laws.proofs.Tests.{or-no}
 use Rattle.rules.specs.Answer.{Answer, done, refused, refuse_if_else_}
 use Rattle.rules.specs.Judge.{Report, Release, Round}
 use Rattle.rules.specs.Numbers.{Read, Reads, give, number, groups-after, number-bytes}
-use Rattle.rules.specs.Written.{Wrote, put, read-record, reading, read-into, numbers-of, too-large, record-bytes, write-number, write-record}
+use Rattle.rules.specs.Written.{Wrote, put, read-record, read-into, numbers-of, too-large, record-bytes, write-number, write-record}
 use Rattle.rules.specs.RoundTrips.{Bytes, used, bytes-used, ReadAgain, WrittenAgain, Takes-at-most, Alone, NumberTrips, RecordTrips}
 use Rattle.rules.proofs.Answers.{refused≢done, same-done, passed}
 use Rattle.rules.proofs.Reading.{Gives, gives-at, Took, Takes, number-takes, record-takes, some-taken}
 use Rattle.rules.proofs.Trip.{number-trip, record-trip}
-use Rattle.rules.proofs.Back.{number-was-written, Written, record-was-written}
+use Rattle.rules.proofs.Back.{number-was-written, record-was-written}
 use Rattle.rules.proofs.Sizes.{groups-size, record-size}
 
 -- bytes in front of the rest are those that were used

@@ -1,16 +1,16 @@
 -- How many bytes a number and a record take.
-use mathlib.Core.Path.{_≡_, refl, sym, ap, _∙_}
-use mathlib.Core.List.{List, [], _∷_, _++_, foldr}
+use mathlib.Core.Path.{_≡_, refl}
+use mathlib.Core.List.{List, [], _∷_, foldr}
 use mathlib.Core.Bool.{Bool, true, false}
 use mathlib.Core.Option.{Option, none, some}
-use Prim.Native.Nat.{ℕ, zero, suc, _+_, _-_, _*_, _/_, _%_, _^_, _≤_, _<_}
+use Prim.Native.Nat.{ℕ, zero, suc, _+_, _-_, _*_, _/_, _%_, _≤_, _<_}
 use native.Mathlib.Nat.{mul-suc, mul-le-mul-left}
 use native.Mathlib.Omega.{arith}
 use borrow.Author.Tests.{lt-ltb, le-ltb}
 use lib.ListN.{length, length-append}
 use Rattle.laws.specs.Tests.{_<?_, if_then_else_}
 use Rattle.rules.specs.Judge.{Report, Release, Round}
-use Rattle.rules.specs.Numbers.{groups, number-bytes}
+use Rattle.rules.specs.Numbers.{groups}
 use Rattle.rules.specs.Written.{entry-numbers, numbers-of, bytes-of, record-bytes}
 use Rattle.rules.proofs.Trip.{release-numbers}
 

@@ -1,20 +1,19 @@
 -- What is written is read back, whatever follows it: a number, then a thing written as some numbers, a list of such things, a record.
-use mathlib.Core.Path.{_≡_, refl, sym, _∙_, ap}
-use mathlib.Core.Bool.{Bool, true, false, _||_, _&&_}
+use mathlib.Core.Path.{_≡_, refl, _∙_, ap}
+use mathlib.Core.Bool.{Bool, true, false, _&&_}
 use mathlib.Core.Option.{Option, none, some}
-use mathlib.Core.Logic.{_⊎_, inl, inr}
 use mathlib.Core.List.{List, [], _∷_, _++_, foldr, append-assoc}
 use Prim.Native.Nat.{ℕ, zero, suc, _+_, _-_, _*_, _/_, _%_, _^_, _≤_, _<_}
 use native.Mathlib.Nat.{pow-suc}
 use native.Mathlib.Omega.{arith}
 use lib.ListN.{length}
-use borrow.Author.Tests.{ltb-true, ltb-false, lt-ltb, le-ltb, eq-eqb, ne-eqb, leb-false}
+use borrow.Author.Tests.{ltb-true, ltb-false, lt-ltb, le-ltb, ne-eqb, leb-false}
 use Rattle.laws.specs.Tests.{_<?_, _≤?_, _=?_, if_then_else_}
 use Rattle.laws.proofs.Tests.{or-no}
-use Rattle.rules.specs.Answer.{Answer, done, refuse_if_else_}
+use Rattle.rules.specs.Answer.{refuse_if_else_}
 use Rattle.rules.specs.Judge.{Report, Release, Round}
-use Rattle.rules.specs.Numbers.{Read, Reads, _>>=_, after, give, groups-after, number, groups, number-bytes}
-use Rattle.rules.specs.Written.{times, counted, read-release, read-report, read-entry, read-record, entry-numbers, numbers-of, bytes-of, too-large, record-bytes}
+use Rattle.rules.specs.Numbers.{Reads, give, groups-after, number, groups, number-bytes}
+use Rattle.rules.specs.Written.{times, counted, read-release, read-entry, read-record, entry-numbers, numbers-of, bytes-of, too-large, record-bytes}
 
 -- the last group
 last-group : (k v : ℕ) (rest : List ℕ) → v < 128 → (0 < k → 0 < v) → groups-after k (v ∷ rest) ≡ give v rest

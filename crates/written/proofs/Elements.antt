@@ -1,20 +1,17 @@
 -- The kinds of things that are read: how each is told, and that its reading takes its bytes alone.
 use mathlib.Core.Path.{_≡_, refl, sym, ap, _∙_}
-use mathlib.Core.Option.{Option, none, some}
 use mathlib.Core.List.{List}
 use Prim.Native.Nat.{ℕ, _-_, _≤_}
 use native.Mathlib.Omega.{arith}
 use borrow.Author.Tests.{ltb-false}
 use lib.ListN.{length, drop}
 use Rattle.laws.specs.Tests.{_<?_}
-use Rattle.rules.specs.Answer.{Answer, done, refused, refuse_if_else_}
-use Rattle.rules.specs.Judge as rules
+use Rattle.rules.specs.Answer.{Answer, done, refused}
 use Rattle.rules.specs.Numbers.{Read, Reads, number}
 use Rattle.rules.specs.Written.{counted}
 use Rattle.rules.proofs.Reading.{Gives, so, stop, gives-at, gives-after, gives-refuse, Took, Takes, number-takes, give-takes, then-takes, counted-takes, times-takes, release-takes, entry-takes}
-use Rattle.round.specs.declared.Entry.{Entry}
-use Rattle.round.specs.declared.Entry.the-variants as sent
 use Rattle.round.specs.Round.{releaseOf, entryOf, release-as, entry-as}
+use Rattle.round.proofs.Same.{entry-there}
 use Rattle.written.specs.declared.number.NumberRead.{NumberRead}
 use Rattle.written.specs.declared.number.NumberRead.the-variants as number
 use Rattle.written.specs.declared.reader.ReleaseRead.the-variants as release
@@ -40,15 +37,6 @@ release-tells = record {
   same-stop = λ {m} {n} e. cc;
   apart = λ {x} {m} {n} e. let z : _≡_ {A = ℕ} 0 1 = cc in omega arith;
 }
-
--- an entry by value and the rules' entry say the same
-pub entry-there : (e : Option rules.Report) → entryOf (entry-as e) ≡ e
-entry-there none = refl
-entry-there (some e) = refl
-
-pub entry-here : (e : Entry) → entry-as (entryOf e) ≡ e
-entry-here sent.Missing = refl
-entry-here (sent.Sent e) = refl
 
 pub entry-tells : Tells (λ e next. entry.Value (entry-as e) next) entry.Refused
 entry-tells = record {

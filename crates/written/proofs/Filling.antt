@@ -2,12 +2,12 @@
 use mathlib.Core.Path.{_≡_, refl, sym, ap, ap₂, _∙_}
 use mathlib.Core.Option.{Option, none, some}
 use mathlib.Core.List.{List, [], _∷_, _++_, foldr, append-assoc, append-nil}
-use Prim.Native.Nat.{ℕ, zero, suc, _+_, _-_, _*_, _≤_, _<_}
+use Prim.Native.Nat.{ℕ, suc, _+_, _-_, _*_, _≤_, _<_}
 use native.Mathlib.Nat.{mul-suc, mul-le-mul-left}
 use native.Mathlib.Omega.{arith}
-use lib.ListN.{length, take, drop, getD, set, length-append}
+use lib.ListN.{length, drop, getD, set, length-append}
 use lib.Seq.{sets, length-take-le, getD-take}
-use Rattle.laws.specs.Lists.{pad, rows}
+use Rattle.laws.specs.Lists.{pad}
 use Rattle.laws.proofs.Lists.{pad-snoc, take-pad, drop-here, length-rows, rows-at}
 use Rattle.rules.specs.Judge as rules
 use Rattle.rules.specs.Written.{entry-numbers, numbers-of}

@@ -8,3 +8,4 @@ pub mod Parts
 pub mod Filling
 pub mod Settled
 pub mod Cases
+pub mod Trips

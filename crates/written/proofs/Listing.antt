@@ -1,7 +1,7 @@
 -- A list read element by element into an array: what is read is what was read so far with the rest of the list behind it. Once for every kind of element.
 use mathlib.Core.Path.{_≡_, refl, sym, ap, ap₂, _∙_}
 use mathlib.Core.List.{List, [], _∷_, _++_, map, append-assoc, append-nil}
-use Prim.Native.Nat.{ℕ, zero, suc, _+_, _-_, _≤_, _<_}
+use Prim.Native.Nat.{ℕ, suc, _+_, _-_, _≤_, _<_}
 use native.Mathlib.Omega.{arith}
 use lib.ListN.{length, drop, set, length-append, length-map}
 use Rattle.laws.specs.Lists.{pad}

@@ -3,10 +3,9 @@ use mathlib.Core.Path.{_≡_, refl, sym, ap, _∙_}
 use mathlib.Core.List.{List}
 use Prim.Native.Nat.{ℕ}
 use Rattle.rules.specs.Answer.{Answer, done, refused, refused-by}
-use Rattle.rules.specs.Judge as rules
 use Rattle.rules.specs.Numbers.{Read, Reads, after, give, number}
 use Rattle.rules.specs.Written.{times, counted, read-release, read-entry, read-record}
-use Rattle.written.specs.Records.{release-list, entry-list, lists}
+use Rattle.written.specs.Records.{release-list, lists}
 
 after-same : {A B : Type 0} (a : Answer (Read A)) {f g : A → Reads B} → ((x : A) (s : List ℕ) → f x s ≡ g x s) → after a f ≡ after a g
 after-same (done x) e = e (x .value) (x .rest)

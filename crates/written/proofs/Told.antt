@@ -1,15 +1,15 @@
 -- From what is told of a reading back to the reading: what was read and the bytes from the place that is told on, or a refusal that stays one
 -- whatever was to follow.
-use mathlib.Core.Path.{_≡_, refl, sym, ap, _∙_}
+use mathlib.Core.Path.{_≡_, sym, ap, _∙_}
 use mathlib.Core.Logic.{_⊎_, inl, inr}
-use mathlib.Core.List.{List, [], _∷_, _++_}
+use mathlib.Core.List.{List, _++_}
 use Prim.Native.Nat.{ℕ, _+_, _-_, _≤_, _<_}
 use native.Mathlib.Omega.{arith}
 use lib.ListN.{length, drop, length-drop, drop-of-length-le}
 use lib.Seq.{drop-drop, drop-append-seam, drop-length}
 use Rattle.laws.proofs.Tests.{lt-or-ge}
-use Rattle.rules.specs.Answer.{Answer, done, refused, refused-by}
-use Rattle.rules.specs.Numbers.{Read, Reads, after, give}
+use Rattle.rules.specs.Answer.{Answer, done, refused}
+use Rattle.rules.specs.Numbers.{Read, Reads, give}
 use Rattle.rules.proofs.Reading.{Gives, so, stop, Took, Takes}
 use Rattle.written.specs.Numbers.{told}
 

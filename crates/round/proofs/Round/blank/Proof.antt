@@ -1,5 +1,4 @@
 -- The record that says nothing.
-use mathlib.Core.Path.{_≡_}
 use borrow.Author.Needs.{needs}
 use Rattle.round.proofs.Round.blank.Statement.{statement}
 use Rattle.round.proofs.Round.blank.Tie as tie

@@ -8,7 +8,7 @@ use lib.Pow.{pow-mono, pow-add}
 use lib.ListN.{length, drop, getD}
 use Rattle.laws.proofs.Digits.{group-below}
 use Rattle.rules.specs.Numbers.{number, groups-after}
-use Rattle.written.specs.declared.number.NumberRead.the-variants.{Value, Refused}
+use Rattle.written.specs.declared.number.NumberRead.the-variants.{Refused}
 use Rattle.written.specs.Numbers.{numberRead, last-group}
 use Rattle.written.proofs.Groups.{groups-end, groups-last, groups-over, groups-more, on-top, on-top-start, on-top-stop, on-top-more, on-top-last}
 use Rattle.written.proofs.number.read_number.Statement.{statement}

@@ -1,14 +1,13 @@
 -- The number writer, a lemma for each way out.
-use mathlib.Core.Path.{_≡_, refl, sym, ap, _∙_}
+use mathlib.Core.Path.{_≡_, refl, ap, _∙_}
 use mathlib.Core.List.{List}
 use Prim.Native.Nat.{ℕ, _+_, _-_, _^_, _≤_, _<_}
 use native.Mathlib.Omega.{arith}
 use borrow.Author.Tests.{le-leb, lt-leb}
 use lib.ListN.{length, drop}
 use lib.Seq.{sets}
-use Rattle.rules.specs.Answer.{done, refused}
 use Rattle.rules.specs.Numbers.{number-bytes}
-use Rattle.rules.specs.Written.{Wrote, put, write-number}
+use Rattle.rules.specs.Written.{write-number}
 use Rattle.rules.proofs.Sizes.{groups-some}
 use Rattle.written.specs.declared.number.Written.{Written}
 use Rattle.written.specs.declared.number.Written.the-variants.{Bytes, Refused}

@@ -1,5 +1,5 @@
 -- So many entries, read into the array one by one.
-use mathlib.Core.Path.{_≡_, refl, sym, ap, _∙_}
+use mathlib.Core.Path.{_≡_, sym, ap, _∙_}
 use mathlib.Core.List.{List, []}
 use Prim.Native.Nat.{ℕ, _+_, _-_, _≤_, _<_}
 use native.Mathlib.Omega.{arith}
@@ -11,13 +11,13 @@ use Rattle.rules.proofs.Reading.{entry-takes}
 use Rattle.round.specs.declared.Entry.{Entry}
 use Rattle.round.specs.declared.Place.{Place}
 use Rattle.round.specs.Round.{entryOf, no-entry}
+use Rattle.round.proofs.Same.{entry-here}
 use Rattle.written.specs.declared.reader.EntryRead.{EntryRead}
 use Rattle.written.specs.declared.reader.EntryRead.the-variants as entry
 use Rattle.written.specs.declared.reader.Ended.the-variants as ended
-use Rattle.written.specs.declared.reader.Entries.{Entries}
 use Rattle.written.specs.Records.{entryRead, place-as, entriesRead, some-entries, no-entries}
 use Rattle.written.proofs.Told.{told-value, told-stop}
-use Rattle.written.proofs.Elements.{entry-tells, entry-here}
+use Rattle.written.proofs.Elements.{entry-tells}
 use Rattle.written.proofs.Listing.{Listing, listing-start, listing-done, listing-stop, listing-more}
 use Rattle.written.proofs.reader.list_entries.Statement.{statement}
 use Rattle.written.proofs.reader.list_entries.Tie as tie

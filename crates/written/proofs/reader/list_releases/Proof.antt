@@ -1,5 +1,5 @@
 -- So many releases, read into the array one by one.
-use mathlib.Core.Path.{_≡_, refl, sym, ap, _∙_}
+use mathlib.Core.Path.{_≡_, refl, sym, _∙_}
 use mathlib.Core.List.{List, []}
 use Prim.Native.Nat.{ℕ, _+_, _-_, _≤_, _<_}
 use native.Mathlib.Omega.{arith}
@@ -13,7 +13,6 @@ use Rattle.round.specs.Round.{releaseOf, release-as, no-release}
 use Rattle.written.specs.declared.reader.ReleaseRead.{ReleaseRead}
 use Rattle.written.specs.declared.reader.ReleaseRead.the-variants as release
 use Rattle.written.specs.declared.reader.Ended.the-variants as ended
-use Rattle.written.specs.declared.reader.Releases.{Releases}
 use Rattle.written.specs.Records.{releaseRead, releasesRead, some-releases, no-releases}
 use Rattle.written.proofs.Told.{told-value, told-stop}
 use Rattle.written.proofs.Elements.{release-tells}

@@ -1,10 +1,10 @@
 -- A record, a lemma for each way out.
-use mathlib.Core.Path.{_≡_, refl, sym, ap, _∙_}
+use mathlib.Core.Path.{_≡_, sym, _∙_}
 use mathlib.Core.List.{List}
 use Prim.Native.Nat.{ℕ, _-_, _≤_}
 use native.Mathlib.Omega.{arith}
 use lib.ListN.{length, drop, length-drop}
-use Rattle.rules.specs.Answer.{done, refused}
+use Rattle.rules.specs.Answer.{refused}
 use Rattle.rules.specs.Judge as rules
 use Rattle.rules.specs.Numbers.{number}
 use Rattle.rules.specs.Written.{read-record, read-into}

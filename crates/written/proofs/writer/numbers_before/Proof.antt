@@ -12,7 +12,6 @@ use Rattle.rules.specs.Judge as rules
 use Rattle.rules.proofs.Trip.{release-numbers}
 use Rattle.round.specs.declared.Round.{Round}
 use Rattle.round.specs.Round.{releasesOf, no-release}
-use Rattle.written.specs.declared.writer.Numbers.{Numbers}
 use Rattle.written.specs.Writing.{numbersAs, head-numbers}
 use Rattle.written.proofs.Filling.{filled, releases-here}
 use Rattle.written.proofs.writer.numbers_before.Statement.{statement}

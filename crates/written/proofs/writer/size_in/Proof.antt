@@ -1,7 +1,7 @@
 -- The size: what was counted so far, and what the numbers from `i` on take.
-use mathlib.Core.Path.{_≡_, refl, sym, ap, _∙_}
-use mathlib.Core.Bool.{Bool, true, false}
-use mathlib.Core.List.{List, [], _∷_, _++_}
+use mathlib.Core.Path.{_≡_, refl, ap, _∙_}
+use mathlib.Core.Bool.{true, false}
+use mathlib.Core.List.{List, [], _∷_}
 use Prim.Native.Nat.{ℕ, _+_, _-_, _*_, _^_, _≤_, _<_}
 use native.Mathlib.Omega.{arith}
 use borrow.Author.Needs.{needs}
@@ -12,7 +12,6 @@ use Rattle.rules.specs.Numbers.{number-bytes}
 use Rattle.rules.specs.Written.{bytes-of, too-large}
 use Rattle.rules.proofs.Sizes.{groups-size}
 use Rattle.written.specs.declared.writer.Numbers.{Numbers}
-use Rattle.written.specs.declared.writer.Size.{Size}
 use Rattle.written.specs.declared.writer.Size.the-variants as size
 use Rattle.written.specs.Writing.{numbersIn, sizeOf}
 use Rattle.written.proofs.Filling.{numbers-here}

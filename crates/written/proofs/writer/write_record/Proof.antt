@@ -1,16 +1,16 @@
 -- The record writer, a lemma for each way out.
 use mathlib.Core.Path.{_≡_, refl, sym, ap, _∙_}
-use mathlib.Core.Bool.{Bool, true, false, _||_}
-use mathlib.Core.List.{List, _++_}
+use mathlib.Core.Bool.{Bool, true, false}
+use mathlib.Core.List.{List}
 use Prim.Native.Nat.{ℕ, _+_, _-_, _≤_, _<_}
 use native.Mathlib.Omega.{arith}
 use borrow.Author.Tests.{lt-ltb, le-ltb}
-use lib.ListN.{length, drop}
+use lib.ListN.{length}
 use lib.Seq.{sets}
 use Rattle.laws.specs.Tests.{_<?_, if_then_else_}
 use Rattle.laws.proofs.Lists.{length-rows}
-use Rattle.rules.specs.Answer.{Answer, done, refused, refuse_if_else_}
-use Rattle.rules.specs.Written.{Wrote, put, numbers-of, bytes-of, too-large, record-bytes, write-record}
+use Rattle.rules.specs.Answer.{refuse_if_else_}
+use Rattle.rules.specs.Written.{put, numbers-of, bytes-of, too-large, record-bytes, write-record}
 use Rattle.round.specs.declared.Round.{Round}
 use Rattle.round.specs.Round.{releasesOf, entriesOf, roundOf}
 use Rattle.written.specs.declared.number.Written.{Written}

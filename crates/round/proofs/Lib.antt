@@ -1,0 +1,2 @@
+-- Laws of the round record by value.
+pub mod Same
