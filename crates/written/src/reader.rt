@@ -62,6 +62,7 @@ pub struct RecordRead {
     pub round: Round,
 }
 
+// "(task, delay) each"
 fn read_release(bytes: &[u8], from: usize) -> ReleaseRead
     ensures { λ r. ⌜ r ≡ releaseRead (now (bytes .entry)) (read-release (drop from (now (bytes .entry)))) ⌝ }
 {
@@ -230,6 +231,7 @@ fn read_entries(bytes: &[u8], from: usize) -> Entries
     }
 }
 
+// Beside a refusal stands the blank record, so that the reply is settled to the last bit.
 fn no_lists(n: u64) -> RoundRead
     ensures { λ r. ⌜ r ≡ no-round n ⌝ }
 {
@@ -240,7 +242,7 @@ fn no_lists(n: u64) -> RoundRead
     }
 }
 
-// What follows the time.
+// What follows r: "count of releases, (task, delay) each, count of entries, then per entry ..".
 fn read_lists(bytes: &[u8], time: u64, from: usize) -> RoundRead
     ensures { λ r. ⌜ r ≡ roundRead (now (bytes .entry)) (lists time (drop from (now (bytes .entry)))) ⌝ }
 {
