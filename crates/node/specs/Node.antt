@@ -22,6 +22,8 @@ use Rattle.node.specs.declared.Sent.{Sent}
 use Rattle.node.specs.declared.Opening.{Opening}
 use Rattle.node.specs.declared.Opening.the-variants as opening
 use Rattle.node.specs.declared.Node.{Node}
+use Rattle.node.specs.declared.MakeAnswer.the-variants as make
+use Rattle.node.specs.declared.Making.{Making}
 use Rattle.node.specs.declared.StartAnswer.{StartAnswer}
 use Rattle.node.specs.declared.StartAnswer.the-variants as starts
 use Rattle.node.specs.declared.Starting.{Starting}
@@ -75,6 +77,12 @@ pub record Given (t : Table) (n : Node) : Type 0 where
 pub record Ours (n : Node) : Type 0 where
   pub t : Table
   pub given : Given t n
+
+-- What is answered where a node is made. A refusal has no node to give back: the fresh node of number 0 stands beside it.
+abbrev pub making : Answer rules.Node → Making
+making (done n) = record { answer = make.Made; node = node-as n }
+making (refused k) = record { answer = make.Refused k; node = node-as (rules.new-node 0) }
+making (refused-by k i) = record { answer = make.Refused k; node = node-as (rules.new-node 0) }
 
 -- "beyond both O and the lock": what `beyond-lock` of the rules asks, of the numbers that it reads.
 abbrev pub beyond-lock-at : Option rules.Open → ℕ → ℕ → Bool

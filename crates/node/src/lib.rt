@@ -1,12 +1,15 @@
 // What a node does: start, finish, report and close.
 ghost use mathlib.Core.Path.{_≡_};
 ghost use Rattle.laws.specs.Tests.{found};
-ghost use Rattle.rules.specs.Node.{start, finish, report-of, report};
+ghost use Rattle.rules.specs.Node.{new-node, fresh-node, start, finish, report-of, report};
 ghost use Rattle.table.specs.Table.{tableOf, Checked};
 ghost use Rattle.common.specs.Common.{commonOf};
 ghost use Rattle.common.specs.Raw.{breachOf};
 ghost use Rattle.common.specs.Positions.{Occupied};
-ghost use Rattle.node.specs.Node.{clockOf, clock-rule, roundOf, beyond-lock-at, Lockable, broken-at, nodeOf, Given, Ours, Asking, permission-rule, permissionOf, Startable, starting, started-now, finishing, Reachable, next-soon-at, reporting, reported-now};
+ghost use Rattle.node.specs.Node.{clockOf, clock-rule, roundOf, beyond-lock-at, Lockable, broken-at, nodeOf, node-as, Given, Ours, making, Asking, permission-rule, permissionOf, Startable, starting, started-now, finishing, Reachable, next-soon-at, reporting, reported-now};
+
+mod own;
+
 use common::Breach;
 use common::Common;
 use round::Report;
@@ -34,6 +37,16 @@ pub struct Node {
     pub running: bool,
     pub latest: u64,
     pub round: Opening,
+}
+
+pub enum MakeAnswer {
+    Made,
+    Refused(u64),
+}
+
+pub struct Making {
+    pub answer: MakeAnswer,
+    pub node: Node,
 }
 
 // A start's answer: the task of the job that stands there, or the refusal; 9 with the task that breaks the bound.
@@ -79,6 +92,40 @@ pub struct Reporting {
 pub enum Clock {
     Runs,
     Refused(u64),
+}
+
+// "A fresh one has zeros, no mark and no round."
+fn new_node(number: u64) -> Node
+    ensures { λ r. ⌜ r ≡ node-as (new-node number) ⌝ }
+{
+    let common = Common::fresh();
+    Node {
+        number,
+        common,
+        progress: 0,
+        completed: 0,
+        running: false,
+        latest: 0,
+        round: Opening::Shut,
+    }
+}
+
+// 1: "node number ≥ m", met where a node is made.
+pub fn fresh_node(table: Table, number: u64) -> Making
+    ensures { λ r. ⌜ r ≡ making (fresh-node (tableOf table) number) ⌝ }
+{
+    if table.nodes <= number {
+        let nobody = new_node(0);
+        return Making {
+            answer: MakeAnswer::Refused(1),
+            node: nobody,
+        };
+    }
+    let node = new_node(number);
+    Making {
+        answer: MakeAnswer::Made,
+        node,
+    }
 }
 
 // 3, 4, 5: "time above 2^48 − 1", "time before the node's latest", "left behind"
