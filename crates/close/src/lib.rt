@@ -76,7 +76,7 @@ fn conclude(c: Common, j: Judgement, earliest: [u64; 64], q: Round) -> Closing
 {
     let length = c.base + c.count as u64;
     let longer = length + q.listed as u64;
-    if j.base + 256 < longer {
+    if j.base + (Common::PLACES as u64) < longer {
         return refuse(c, 17);
     }
     let common = apply(c, j, earliest, q);

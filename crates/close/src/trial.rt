@@ -13,6 +13,9 @@ use release::spacing::all_spaced;
 use round::Round;
 use table::Table;
 
+// 2^48. 3: "time above 2^48 − 1"
+const TOO_LATE: u64 = 281474976710656;
+
 // 14: "r < last round + timeout (not for the first)"
 fn early_round(t: Table, c: Common, time: u64) -> bool
     requires { ⌜ Checked t × Given t c ⌝ }
@@ -32,7 +35,7 @@ pub fn tried(t: Table, c: Common, q: Round) -> Spaced
 {
     let earliest = c.earliest;
     let time = q.time;
-    if 281474976710656 <= time {
+    if TOO_LATE <= time {
         return Spaced {
             standing: Standing::Refused(3),
             earliest,

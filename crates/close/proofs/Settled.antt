@@ -18,8 +18,8 @@ use Rattle.close.specs.declared.Outcome.the-variants as outcome
 use Rattle.close.specs.Close.{closing, refusal}
 
 module _ (t : Table) (c : Common) (q : Round) where
-  pub one-reply : {r s : Closing} → r ≡ closing c (close (tableOf t) (commonOf c) (roundOf q)) → s ≡ closing c (close (tableOf t) (commonOf c) (roundOf q)) → r ≡ s
-  one-reply p e = p ∙ sym e
+  pub close-round-settled : {r s : Closing} → r ≡ closing c (close (tableOf t) (commonOf c) (roundOf q)) → s ≡ closing c (close (tableOf t) (commonOf c) (roundOf q)) → r ≡ s
+  close-round-settled p e = p ∙ sym e
 
   kept-given : Checked t → Given t c → (a : Answer Closed) → close (tableOf t) (commonOf c) (roundOf q) ≡ a → Given t ((closing c a) .common)
   unfolding refusal
