@@ -9,12 +9,14 @@ use native.Mathlib.Omega.{arith}
 use borrow.Author.Tests.{ltb-false, leb-false}
 use Rattle.laws.specs.Tests.{_<?_}
 use Rattle.rules.specs.Answer.{Answer, done, refused, refused-by, refuse_if_else_, refuse_naming_else_}
+use Rattle.rules.specs.Judge as judges
 use Rattle.rules.specs.Close.{too-late}
+use Rattle.rules.specs.Node as rules
 use Rattle.node.specs.declared.Opening.{Opening}
 use Rattle.node.specs.declared.Opening.the-variants as opening
 use Rattle.node.specs.declared.Permission.the-variants as permission
-use Rattle.node.specs.declared.Clock.{Clock}
-use Rattle.node.specs.declared.Clock.the-variants as clock
+use Rattle.node.specs.declared.Check.{Check}
+use Rattle.node.specs.declared.Check.the-variants as check
 use Rattle.table.specs.declared.Table.{Table}
 use Rattle.common.specs.Common.{commonOf, common-as}
 use Rattle.common.specs.Common as commons
@@ -23,7 +25,7 @@ use Rattle.common.specs.declared.Breach.{Breach}
 use Rattle.common.specs.declared.Breach.the-variants as breach
 use Rattle.common.proofs.Records.{length-is}
 use Rattle.node.specs.declared.Node.{Node}
-use Rattle.node.specs.Node.{roundOf, round-as, node-as, clock-rule, clockOf, permissionOf, Given}
+use Rattle.node.specs.Node.{roundOf, round-as, node-as, clock-rule, own-rule, checkOf, permissionOf, Given}
 
 pub round-back : (o : Opening) → round-as (roundOf o) ≡ o
 round-back opening.Shut = refl
@@ -60,29 +62,38 @@ rebuilt n e progress completed running latest o =
       round = sym (round-back o) i;
     }
 
--- a ladder that begins with the clock's refusals, by the clock's answer
+-- a ladder that begins with three refusals, by what they answer
 module _ {A : Type 0} (rest : Answer A) where
-  by-stop : (a b c : Bool) {k : ℕ} → clockOf (refuse 3 if a else refuse 4 if b else refuse 5 if c else done tt) ≡ clock.Refused k
-      → (refuse 3 if a else refuse 4 if b else refuse 5 if c else rest) ≡ refused k
-  by-stop true b c h = cc
-  by-stop false true c h = cc
-  by-stop false false true h = cc
-  by-stop false false false h = let z : _≡_ {A = ℕ} 0 1 = cc in absurd (omega arith)
+  by-stop : (x y z : ℕ) (a b c : Bool) {k : ℕ} → checkOf (refuse x if a else refuse y if b else refuse z if c else done tt) ≡ check.Refused k
+      → (refuse x if a else refuse y if b else refuse z if c else rest) ≡ refused k
+  by-stop x y z true b c h = cc
+  by-stop x y z false true c h = cc
+  by-stop x y z false false true h = cc
+  by-stop x y z false false false h = let z : _≡_ {A = ℕ} 0 1 = cc in absurd (omega arith)
 
-  by-run : (a b c : Bool) → clockOf (refuse 3 if a else refuse 4 if b else refuse 5 if c else done tt) ≡ clock.Runs
-      → (refuse 3 if a else refuse 4 if b else refuse 5 if c else rest) ≡ rest
-  by-run true b c h = let z : _≡_ {A = ℕ} 0 1 = cc in absurd (omega arith)
-  by-run false true c h = let z : _≡_ {A = ℕ} 0 1 = cc in absurd (omega arith)
-  by-run false false true h = let z : _≡_ {A = ℕ} 0 1 = cc in absurd (omega arith)
-  by-run false false false h = refl
+  by-run : (x y z : ℕ) (a b c : Bool) → checkOf (refuse x if a else refuse y if b else refuse z if c else done tt) ≡ check.Passes
+      → (refuse x if a else refuse y if b else refuse z if c else rest) ≡ rest
+  by-run x y z true b c h = let z : _≡_ {A = ℕ} 0 1 = cc in absurd (omega arith)
+  by-run x y z false true c h = let z : _≡_ {A = ℕ} 0 1 = cc in absurd (omega arith)
+  by-run x y z false false true h = let z : _≡_ {A = ℕ} 0 1 = cc in absurd (omega arith)
+  by-run x y z false false false h = refl
 
-  module _ {a : Clock} (latest progress base now : ℕ) (p : a ≡ clockOf (clock-rule latest progress base now)) where
-    pub clock-stops : {k : ℕ} → a ≡ clock.Refused k
+  module _ {a : Check} (latest progress base now : ℕ) (p : a ≡ checkOf (clock-rule latest progress base now)) where
+    pub clock-stops : {k : ℕ} → a ≡ check.Refused k
         → (refuse 3 if too-late now else refuse 4 if now <? latest else refuse 5 if progress <? base else rest) ≡ refused k
-    clock-stops h = by-stop (too-late now) (now <? latest) (progress <? base) (sym p ∙ h)
+    clock-stops h = by-stop 3 4 5 (too-late now) (now <? latest) (progress <? base) (sym p ∙ h)
 
-    pub clock-runs : a ≡ clock.Runs → (refuse 3 if too-late now else refuse 4 if now <? latest else refuse 5 if progress <? base else rest) ≡ rest
-    clock-runs h = by-run (too-late now) (now <? latest) (progress <? base) (sym p ∙ h)
+    pub clock-runs : a ≡ check.Passes → (refuse 3 if too-late now else refuse 4 if now <? latest else refuse 5 if progress <? base else rest) ≡ rest
+    clock-runs h = by-run 3 4 5 (too-late now) (now <? latest) (progress <? base) (sym p ∙ h)
+
+  module _ {a : Check} (n : rules.Node) (q : judges.Round) (p : a ≡ checkOf (own-rule n q)) where
+    pub own-stops : {k : ℕ} → a ≡ check.Refused k
+        → (refuse 5 if rules.left-behind n else refuse 12 if rules.other-round n q else refuse 13 if rules.not-as-sent n q else rest) ≡ refused k
+    own-stops h = by-stop 5 12 13 (rules.left-behind n) (rules.other-round n q) (rules.not-as-sent n q) (sym p ∙ h)
+
+    pub own-passes : a ≡ check.Passes
+        → (refuse 5 if rules.left-behind n else refuse 12 if rules.other-round n q else refuse 13 if rules.not-as-sent n q else rest) ≡ rest
+    own-passes h = by-run 5 12 13 (rules.left-behind n) (rules.other-round n q) (rules.not-as-sent n q) (sym p ∙ h)
 
 -- what a clock that runs has passed
 pub record OnTime (latest progress base now : ℕ) : Type 0 where
@@ -90,13 +101,13 @@ pub record OnTime (latest progress base now : ℕ) : Type 0 where
   pub rising : latest ≤ now
   pub ahead : base ≤ progress
 
-passes-all : (a b c : Bool) → clockOf (refuse 3 if a else refuse 4 if b else refuse 5 if c else done tt) ≡ clock.Runs → (a ≡ false) × (b ≡ false) × (c ≡ false)
+passes-all : (a b c : Bool) → checkOf (refuse 3 if a else refuse 4 if b else refuse 5 if c else done tt) ≡ check.Passes → (a ≡ false) × (b ≡ false) × (c ≡ false)
 passes-all true b c h = let z : _≡_ {A = ℕ} 0 1 = cc in absurd (omega arith)
 passes-all false true c h = let z : _≡_ {A = ℕ} 0 1 = cc in absurd (omega arith)
 passes-all false false true h = let z : _≡_ {A = ℕ} 0 1 = cc in absurd (omega arith)
 passes-all false false false h = (refl, refl, refl)
 
-pub on-time : {a : Clock} (latest progress base now : ℕ) → a ≡ clockOf (clock-rule latest progress base now) → a ≡ clock.Runs → OnTime latest progress base now
+pub on-time : {a : Check} (latest progress base now : ℕ) → a ≡ checkOf (clock-rule latest progress base now) → a ≡ check.Passes → OnTime latest progress base now
 on-time latest progress base now p h =
     let k = passes-all (too-late now) (now <? latest) (progress <? base) (sym p ∙ h) in
     record { in-time = leb-false (2 ^ 48) now (k .0); rising = ltb-false now latest (k .1); ahead = ltb-false progress base (k .2) }

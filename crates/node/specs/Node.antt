@@ -2,9 +2,12 @@
 use mathlib.Core.Path.{_≡_}
 use mathlib.Core.Option.{Option, none, some}
 use mathlib.Core.Bool.{Bool, true, false, _&&_, _||_}
-use Prim.Native.Nat.{ℕ, _+_, _^_, _≤_, _<_}
+use mathlib.Core.List.{[]}
+use Prim.Native.Nat.{ℕ, _+_, _^_, _≤_, _<_, max}
 use Rattle.laws.specs.Tests.{_<?_, _≤?_, _=?_, if_then_else_, maybe}
+use Rattle.laws.specs.Lists.{pad}
 use Rattle.rules.specs.Answer.{Answer, done, refused, refused-by, refuse_if_else_, refuse_naming_else_}
+use Rattle.rules.specs.Judge as judges
 use Rattle.rules.specs.Close.{too-late}
 use Rattle.rules.specs.Table as tables
 use Rattle.rules.specs.Common as commons
@@ -18,6 +21,8 @@ use Rattle.round.specs.declared.Report.{Report}
 use Rattle.common.specs.declared.Common.{Common}
 use Rattle.common.specs.Common.{commonOf, common-as}
 use Rattle.common.specs.Common as values
+use Rattle.close.specs.declared.Closing.{Closing}
+use Rattle.close.specs.declared.Outcome.the-variants as outcome
 use Rattle.node.specs.declared.Sent.{Sent}
 use Rattle.node.specs.declared.Opening.{Opening}
 use Rattle.node.specs.declared.Opening.the-variants as opening
@@ -35,8 +40,9 @@ use Rattle.node.specs.declared.ReportAnswer.the-variants as report
 use Rattle.node.specs.declared.Reporting.{Reporting}
 use Rattle.node.specs.declared.Permission.{Permission}
 use Rattle.node.specs.declared.Permission.the-variants as permission
-use Rattle.node.specs.declared.Clock.{Clock}
-use Rattle.node.specs.declared.Clock.the-variants as clock
+use Rattle.node.specs.declared.NodeClosing.{NodeClosing}
+use Rattle.node.specs.declared.Check.{Check}
+use Rattle.node.specs.declared.Check.the-variants as check
 
 abbrev pub roundOf : Opening → Option rules.Open
 roundOf opening.Shut = none
@@ -99,10 +105,10 @@ pub record Lockable (o : Opening) : Type 0 where
 abbrev pub clock-rule : ℕ → ℕ → ℕ → ℕ → Answer (Unit {0})
 clock-rule latest progress base now = refuse 3 if too-late now else refuse 4 if now <? latest else refuse 5 if progress <? base else done tt
 
-abbrev pub clockOf : Answer (Unit {0}) → Clock
-clockOf (done x) = clock.Runs
-clockOf (refused n) = clock.Refused n
-clockOf (refused-by n i) = clock.Refused n
+abbrev pub checkOf : Answer (Unit {0}) → Check
+checkOf (done x) = check.Passes
+checkOf (refused n) = check.Refused n
+checkOf (refused-by n i) = check.Refused n
 
 -- A start's answer, by document 01: "The reply to an accepted start names the task"; a refusal leaves the node as it stood.
 abbrev pub starting : Node → Answer rules.Started → Starting
@@ -189,3 +195,50 @@ reported-now n r run =
         round = opening.Open (record { time = r; report = e });
       };
     }
+
+-- "close 5, 12, 13, then ..": the first three, in that order.
+abbrev pub own-rule : rules.Node → judges.Round → Answer (Unit {0})
+own-rule n q = refuse 5 if rules.left-behind n else refuse 12 if rules.other-round n q else refuse 13 if rules.not-as-sent n q else done tt
+
+-- "A refusal gives its number and changes nothing": the node as it stood, and an empty reply.
+abbrev pub not-closed : Node → ℕ → NodeClosing
+not-closed n k = record {
+  outcome = outcome.Refused k;
+  node = n;
+  classes = pad 15 0 [];
+  back = 15;
+  majority = false;
+  left = rules.left-behind (nodeOf n);
+}
+
+-- A close's answer: the reply as the common record's, and whether the node given back is left behind.
+abbrev pub node-closing : Node → Answer rules.NodeClosed → NodeClosing
+node-closing n (done k) = record {
+  outcome = outcome.Accepted;
+  node = node-as (k .node);
+  classes = (k .reply) .classes;
+  back = (k .reply) .back;
+  majority = (k .reply) .notice;
+  left = rules.left-behind (k .node);
+}
+node-closing n (refused k) = not-closed n k
+node-closing n (refused-by k i) = not-closed n k
+
+-- The same from what the common record answered, where it accepted.
+abbrev pub closed-now : Node → Closing → ℕ → NodeClosing
+closed-now n c end = record {
+  outcome = outcome.Accepted;
+  node = record {
+    number = n .number;
+    common = c .common;
+    progress = n .progress;
+    completed = n .completed;
+    running = n .running;
+    latest = max (n .latest) end;
+    round = opening.Shut;
+  };
+  classes = c .classes;
+  back = c .back;
+  majority = c .majority;
+  left = n .progress <? c .common .base;
+}

@@ -1,18 +1,23 @@
 // What a node does: start, finish, report and close.
 ghost use mathlib.Core.Path.{_≡_};
 ghost use Rattle.laws.specs.Tests.{found};
-ghost use Rattle.rules.specs.Node.{new-node, fresh-node, start, finish, report-of, report};
+ghost use Prim.Native.Nat.{max};
+ghost use Rattle.rules.specs.Node.{new-node, fresh-node, start, finish, report-of, report, node-close};
 ghost use Rattle.table.specs.Table.{tableOf, Checked};
+ghost use Rattle.round.specs.Round as rounds;
 ghost use Rattle.common.specs.Common.{commonOf};
 ghost use Rattle.common.specs.Raw.{breachOf};
 ghost use Rattle.common.specs.Positions.{Occupied};
-ghost use Rattle.node.specs.Node.{clockOf, clock-rule, roundOf, beyond-lock-at, Lockable, broken-at, nodeOf, node-as, Given, Ours, making, Asking, permission-rule, permissionOf, Startable, starting, started-now, finishing, Reachable, next-soon-at, reporting, reported-now};
+ghost use Rattle.node.specs.Node.{checkOf, clock-rule, roundOf, beyond-lock-at, Lockable, broken-at, nodeOf, node-as, Given, Ours, making, Asking, permission-rule, permissionOf, Startable, starting, started-now, finishing, Reachable, next-soon-at, reporting, reported-now, not-closed, closed-now, node-closing};
 
 mod own;
 
+use close::Closing;
+use close::Outcome;
 use common::Breach;
 use common::Common;
 use round::Report;
+use round::Round;
 use table::Table;
 
 // What was sent for the round that is open.
@@ -88,9 +93,19 @@ pub struct Reporting {
     pub node: Node,
 }
 
-// The refusals that a start, a finish and a report share.
-pub enum Clock {
-    Runs,
+// The reply is the common record's. `left` says whether the node given back is left behind.
+pub struct NodeClosing {
+    pub outcome: Outcome,
+    pub node: Node,
+    pub classes: [u8; 15],
+    pub back: u64,
+    pub majority: bool,
+    pub left: bool,
+}
+
+// What the refusals say that come first: those that a start, a finish and a report share, and a close's own.
+pub enum Check {
+    Passes,
     Refused(u64),
 }
 
@@ -129,19 +144,19 @@ pub fn fresh_node(table: Table, number: u64) -> Making
 }
 
 // 3, 4, 5: "time above 2^48 − 1", "time before the node's latest", "left behind"
-pub fn clock_check(latest: u64, progress: u64, base: u64, now: u64) -> Clock
-    ensures { λ r. ⌜ r ≡ clockOf (clock-rule latest progress base now) ⌝ }
+pub fn clock_check(latest: u64, progress: u64, base: u64, now: u64) -> Check
+    ensures { λ r. ⌜ r ≡ checkOf (clock-rule latest progress base now) ⌝ }
 {
     if 0x1_0000_0000_0000 <= now {
-        return Clock::Refused(3);
+        return Check::Refused(3);
     }
     if now < latest {
-        return Clock::Refused(4);
+        return Check::Refused(4);
     }
     if progress < base {
-        return Clock::Refused(5);
+        return Check::Refused(5);
     }
-    Clock::Runs
+    Check::Passes
 }
 
 // 8: "start while a round is open, beyond both O and the lock". "The lock is progress + run."
@@ -240,13 +255,13 @@ pub fn start_node(table: Table, node: Node, now: u64) -> Starting
     let base = node.common.base;
     let checked = clock_check(node.latest, node.progress, base, now);
     match checked {
-        Clock::Refused(number) => {
+        Check::Refused(number) => {
             return Starting {
                 answer: StartAnswer::Refused(number),
                 node,
             };
         }
-        Clock::Runs => {}
+        Check::Passes => {}
     }
     let permitted = may_start(table, node, now);
     match permitted {
@@ -270,13 +285,13 @@ pub fn finish_node(node: Node, now: u64) -> Finishing
     let base = node.common.base;
     let checked = clock_check(node.latest, node.progress, base, now);
     match checked {
-        Clock::Refused(number) => {
+        Check::Refused(number) => {
             return Finishing {
                 answer: FinishAnswer::Refused(number),
                 node,
             };
         }
-        Clock::Runs => {}
+        Check::Passes => {}
     }
     if !node.running {
         return Finishing {
@@ -340,13 +355,13 @@ pub fn report_node(table: Table, node: Node, r: u64) -> Reporting
     let base = node.common.base;
     let checked = clock_check(node.latest, node.progress, base, r);
     match checked {
-        Clock::Refused(number) => {
+        Check::Refused(number) => {
             return Reporting {
                 answer: ReportAnswer::Refused(number),
                 node,
             };
         }
-        Clock::Runs => {}
+        Check::Passes => {}
     }
     let round = node.round;
     let opened = is_open(round);
@@ -381,5 +396,77 @@ fn reported(node: Node, r: u64, run: u64) -> Reporting
     Reporting {
         answer: ReportAnswer::Sends(report),
         node: next,
+    }
+}
+
+// "A refusal gives its number and changes nothing"; "an open round whose record was refused stays open". Beside it stands an empty reply.
+fn not_closed(node: Node, number: u64) -> NodeClosing
+    ensures { λ r. ⌜ r ≡ not-closed node number ⌝ }
+{
+    let base = node.common.base;
+    NodeClosing {
+        outcome: Outcome::Refused(number),
+        node,
+        classes: [0; 15],
+        back: 15,
+        majority: false,
+        left: node.progress < base,
+    }
+}
+
+fn later(a: u64, b: u64) -> u64
+    ensures { λ r. ⌜ r ≡ max a b ⌝ }
+{
+    if a < b {
+        return b;
+    }
+    a
+}
+
+// "lifts the lock and sets the latest time to the larger of itself and r + timeout. If then progress < B, the node is left behind for good."
+fn closed_now(node: Node, closing: Closing, end: u64) -> NodeClosing
+    ensures { λ r. ⌜ r ≡ closed-now node closing end ⌝ }
+{
+    let common = closing.common;
+    let classes = closing.classes;
+    let latest = later(node.latest, end);
+    let next = Node {
+        number: node.number,
+        common,
+        progress: node.progress,
+        completed: node.completed,
+        running: node.running,
+        latest,
+        round: Opening::Shut,
+    };
+    NodeClosing {
+        outcome: Outcome::Accepted,
+        node: next,
+        classes,
+        back: closing.back,
+        majority: closing.majority,
+        left: node.progress < common.base,
+    }
+}
+
+// "close 5, 12, 13, then 3, 14, 15, 16, 17": the node's own refusals, then those of its common record.
+pub fn close_node(table: Table, node: Node, q: Round) -> NodeClosing
+    requires { ⌜ Checked table ⌝ }
+    requires { ⌜ Given table node ⌝ }
+    ensures { λ r. ⌜ r ≡ node-closing node (node-close (tableOf table) (nodeOf node) (rounds.roundOf q)) ⌝ }
+{
+    let checked = own::own_check(node, q);
+    match checked {
+        Check::Refused(number) => {
+            return not_closed(node, number);
+        }
+        Check::Passes => {}
+    }
+    let common = node.common;
+    let closing = close::close_round(table, common, q);
+    let outcome = closing.outcome;
+    match outcome {
+        Outcome::Refused(number) => not_closed(node, number),
+        Outcome::Accepted => closed_now(node, closing, q.time + table.timeout),
     }
 }

@@ -27,31 +27,24 @@ module _ {o : Opening} {s : Sent} (g : o ≡ opening.Open s) where
     beyond : offset < position → s .report .progress + s .report .run < position → true ≡ beyond-lock-at (roundOf o) offset position
     beyond h k = rw (g, lt-ltb offset position h, lt-ltb (s .report .progress + s .report .run) position k)
 
--- src/lib.rt:82:26
 enum-told : tie.Need-enum-told
 enum-told c = search needs
 
--- src/lib.rt:83:23
 enum-known-round : tie.Need-enum-known-round
 enum-known-round c = search needs
 
--- src/lib.rt:84:24
 add-lock : tie.Need-add-lock
 add-lock c = record { fits = search sum }
 
--- src/lib.rt:86:17
 returns : tie.Need-returns
 returns c = search in-offset
 
--- src/lib.rt:89:17
 returns-2 : tie.Need-returns-2
 returns-2 c = search in-lock
 
--- src/lib.rt:77:1
 returns-3 : tie.Need-returns-3
 returns-3 c = search needs
 
--- src/lib.rt:77:1
 returns-4 : tie.Need-returns-4
 returns-4 c = search beyond
 

@@ -7,19 +7,15 @@ use Rattle.node.proofs.broken_at.Reads as reads
 use Rattle.node.proofs.broken_at.Lts as lts
 use Rattle.common.proofs.bound_of.Reads as bound-of-reads
 
--- src/lib.rt:119:9
 returns : tie.Need-returns
 returns c = search needs
 
--- src/lib.rt:122:9
 returns-2 : tie.Need-returns-2
 returns-2 c = simp (c .before .before .if1 .left, le-leb _ _ (c .if2 .taken))
 
--- src/lib.rt:124:5
 bound-of-requires : tie.Need-bound-of-requires
 bound-of-requires c κs = search needs
 
--- src/lib.rt:114:1
 returns-3 : tie.Need-returns-3
 returns-3 c = simp (c .before .before .before .if1 .left, lt-leb _ _ (c .before .if2 .left)) (c .bound-of .ensures)
 

@@ -5,19 +5,15 @@ use Rattle.node.proofs.clock_check.Tie as tie
 use Rattle.node.proofs.clock_check.Reads as reads
 use Rattle.node.proofs.clock_check.Lts as lts
 
--- src/lib.rt:65:9
 returns : tie.Need-returns
 returns c = simp (le-leb _ _ (c .if1 .taken))
 
--- src/lib.rt:68:9
 returns-2 : tie.Need-returns-2
 returns-2 c = simp (lt-leb _ _ (c .before .if1 .left), lt-ltb _ _ (c .if2 .taken))
 
--- src/lib.rt:71:9
 returns-3 : tie.Need-returns-3
 returns-3 c = simp (lt-leb _ _ (c .before .before .if1 .left), le-ltb _ _ (c .before .if2 .left), lt-ltb _ _ (c .if3 .taken))
 
--- src/lib.rt:61:1
 returns-4 : tie.Need-returns-4
 returns-4 c = simp (lt-leb _ _ (c .before .before .if1 .left), le-ltb _ _ (c .before .if2 .left), le-ltb _ _ (c .if3 .left))
 

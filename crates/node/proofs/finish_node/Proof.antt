@@ -10,11 +10,11 @@ use Rattle.common.specs.Common.{commonOf}
 use Rattle.rules.specs.Node as rules
 use Rattle.rules.specs.Answer.{Answer, refused, refuse_if_else_, done}
 use Rattle.node.specs.declared.Node.{Node}
-use Rattle.node.specs.declared.Clock.{Clock}
-use Rattle.node.specs.declared.Clock.the-variants as clock
+use Rattle.node.specs.declared.Check.{Check}
+use Rattle.node.specs.declared.Check.the-variants as check
 use Rattle.node.specs.declared.Finishing.{Finishing}
 use Rattle.node.specs.declared.FinishAnswer.the-variants as finish
-use Rattle.node.specs.Node.{nodeOf, node-as, clock-rule, clockOf, Ours, finishing}
+use Rattle.node.specs.Node.{nodeOf, node-as, clock-rule, checkOf, Ours, finishing}
 use Rattle.node.proofs.Laws.{rebuilt, clock-stops, clock-runs}
 use borrow.Author.Needs.{needs}
 use Rattle.node.proofs.finish_node.Statement.{statement}
@@ -23,12 +23,12 @@ use Rattle.node.proofs.finish_node.Reads as reads
 use Rattle.node.proofs.finish_node.Lts as lts
 use Rattle.node.proofs.clock_check.Reads as clock-check-reads
 
-module _ (n : Node) (now : ℕ) {a : Clock} (p : a ≡ clockOf (clock-rule (n .latest) (n .progress) (n .common .base) now)) where
-  stops : {k : ℕ} → a ≡ clock.Refused k → record { answer = finish.Refused k; node = n } ≡ finishing n (rules.finish (nodeOf n) now)
+module _ (n : Node) (now : ℕ) {a : Check} (p : a ≡ checkOf (clock-rule (n .latest) (n .progress) (n .common .base) now)) where
+  stops : {k : ℕ} → a ≡ check.Refused k → record { answer = finish.Refused k; node = n } ≡ finishing n (rules.finish (nodeOf n) now)
   unfolding rules.finish
   stops h = ap (finishing n) (sym (clock-stops _ (n .latest) (n .progress) (n .common .base) now p h))
 
-  module _ (h : a ≡ clock.Runs) where
+  module _ (h : a ≡ check.Passes) where
     idle : not (n .running) ≡ true → record { answer = finish.Refused 10; node = n } ≡ finishing n (rules.finish (nodeOf n) now)
     unfolding rules.finish
     idle e = sym (ap (finishing n) (clock-runs _ (n .latest) (n .progress) (n .common .base) now p h) ∙ rw e)
@@ -60,30 +60,24 @@ small n v e =
     let p : n .progress + 1 ≤ L (commonOf (n .common)) = rw r at (s .progress) in
     omega (arith, L-below (s .common))
 
--- src/lib.rt:82:9
 clock-check-requires : tie.Need-clock-check-requires
 clock-check-requires c κs = search needs
 
--- src/lib.rt:84:24
 enum-known-checked : tie.Need-enum-known-checked
 enum-known-checked c = search needs
 
--- src/lib.rt:85:13
 returns : tie.Need-returns
 returns c = search stops
 
 enum-told : tie.Need-enum-told
 enum-told c = search needs
 
--- src/lib.rt:93:9
 returns-2 : tie.Need-returns-2
 returns-2 c = search idle
 
--- src/lib.rt:99:21
 add-next : tie.Need-add-next
 add-next c = record { fits = search small }
 
--- src/lib.rt:77:1
 returns-3 : tie.Need-returns-3
 returns-3 c = search finished
 

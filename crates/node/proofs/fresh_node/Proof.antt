@@ -27,19 +27,15 @@ module _ (t : Table) (i : ℕ) {n : Node} where
   unfolding rules.fresh-node
   made h e = ap (λ (n : Node). record { answer = make.Made; node = n }) e ∙ ap making (sym (passed 1 (done (rules.new-node i)) (lt-leb (t .nodes) i h)))
 
--- src/lib.rt:118:13
 new-node-requires : tie.Need-new-node-requires
 new-node-requires c κs = search needs
 
--- src/lib.rt:119:9
 returns : tie.Need-returns
 returns c = search too-high
 
--- src/lib.rt:124:9
 new-node-requires-2 : tie.Need-new-node-requires-2
 new-node-requires-2 c κs = search needs
 
--- src/lib.rt:114:1
 returns-2 : tie.Need-returns-2
 returns-2 c = search made
 

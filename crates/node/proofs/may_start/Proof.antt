@@ -94,51 +94,39 @@ module _ {t : Table} {n : Node} {now : ℕ} (v : Asking t n now) where
           unfolding rules.beyond-lock rules.broken-now
           granted g = ap permissionOf (sym (passed 6 _ idle ∙ passed 7 _ not-end ∙ passed 8 _ (sym k ∙ e) ∙ passed-by 9 (done tt) broken asked g))
 
--- src/lib.rt:156:9
 returns : tie.Need-returns
 returns c = search runs-6
 
--- src/lib.rt:159:18
 add-length : tie.Need-add-length
 add-length c = record { fits = search length-small }
 
--- src/lib.rt:161:9
 returns-2 : tie.Need-returns-2
 returns-2 c = search at-end-7
 
--- src/lib.rt:164:20
 add-position : tie.Need-add-position
 add-position c = record { fits = search position-small }
 
--- src/lib.rt:165:9
 beyond-lock-requires : tie.Need-beyond-lock-requires
 beyond-lock-requires c κs = search lockable
 
--- src/lib.rt:167:9
 returns-3 : tie.Need-returns-3
 returns-3 c = search locked-8
 
--- src/lib.rt:169:9
 is-open-requires : tie.Need-is-open-requires
 is-open-requires c κs = search needs
 
--- src/lib.rt:170:9
 broken-at-requires : tie.Need-broken-at-requires
 broken-at-requires c κs = search occupied
 
--- src/lib.rt:172:20
 enum-known-breach : tie.Need-enum-known-breach
 enum-known-breach c = search needs
 
--- src/lib.rt:173:24
 enum-told : tie.Need-enum-told
 enum-told c = search needs
 
--- src/lib.rt:151:1
 returns-4 : tie.Need-returns-4
 returns-4 c = search broken-9
 
--- src/lib.rt:151:1
 returns-5 : tie.Need-returns-5
 returns-5 c = search granted
 

@@ -39,11 +39,9 @@ made i e =
     })
     e
 
--- src/lib.rt:101:9
 fresh-requires : tie.Need-fresh-requires
 fresh-requires c κs = search needs
 
--- src/lib.rt:98:1
 returns : tie.Need-returns
 returns c = search made
 

@@ -81,42 +81,33 @@ module _ {t : Table} {c : Common} {progress r : ℕ} (v : Reachable t c progress
             let e = may-go (progress + 1 ≤? (commonOf c) .O) (breaker (tableOf t) (commonOf c) (progress + 1) r) m g in
             rw (exists, e, p)
 
--- src/lib.rt:256:18
 add-length : tie.Need-add-length
 add-length c = record { fits = search length-small }
 
--- src/lib.rt:258:9
 returns : tie.Need-returns
 returns c = search none-left
 
--- src/lib.rt:260:50
 add-broken-at : tie.Need-add-broken-at
 add-broken-at c = record { fits = search position-small }
 
--- src/lib.rt:260:9
 broken-at-requires : tie.Need-broken-at-requires
 broken-at-requires c κs = search occupied
 
--- src/lib.rt:262:20
 enum-known-breach : tie.Need-enum-known-breach
 enum-known-breach c = search needs
 
--- src/lib.rt:263:13
 returns-2 : tie.Need-returns-2
 returns-2 c = search held-back
 
 enum-told : tie.Need-enum-told
 enum-told c = search needs
 
--- src/lib.rt:267:9
 projection-of-requires : tie.Need-projection-of-requires
 projection-of-requires c κs = search projectable
 
--- src/lib.rt:268:11
 add-result : tie.Need-add-result
 add-result c = record { fits = search sum-small }
 
--- src/lib.rt:252:1
 returns-3 : tie.Need-returns-3
 returns-3 c = search by-time
 

@@ -11,9 +11,9 @@ use Rattle.table.specs.declared.Table.{Table}
 use Rattle.node.specs.declared.Node.{Node}
 use Rattle.node.specs.declared.Reporting.{Reporting}
 use Rattle.node.specs.declared.ReportAnswer.the-variants as report
-use Rattle.node.specs.declared.Clock.{Clock}
-use Rattle.node.specs.declared.Clock.the-variants as clock
-use Rattle.node.specs.Node.{nodeOf, roundOf, clock-rule, clockOf, Given, Asking, reporting, reported-now}
+use Rattle.node.specs.declared.Check.{Check}
+use Rattle.node.specs.declared.Check.the-variants as check
+use Rattle.node.specs.Node.{nodeOf, roundOf, clock-rule, checkOf, Given, Asking, reporting, reported-now}
 use Rattle.node.proofs.Laws.{rebuilt, clock-stops, clock-runs, on-time, stopped, passed}
 use borrow.Author.Needs.{needs}
 use Rattle.node.proofs.report_node.Statement.{statement}
@@ -25,15 +25,15 @@ use Rattle.node.proofs.is_open.Reads as is-open-reads
 use Rattle.node.proofs.reported.Reads as reported-reads
 use Rattle.node.proofs.run_at.Reads as run-at-reads
 
-module _ {t : Table} {n : Node} (v : Given t n) (r : ℕ) {a : Clock} (p : a ≡ clockOf (clock-rule (n .latest) (n .progress) (n .common .base) r)) where
+module _ {t : Table} {n : Node} (v : Given t n) (r : ℕ) {a : Check} (p : a ≡ checkOf (clock-rule (n .latest) (n .progress) (n .common .base) r)) where
   abbrev Says : Reporting → Type 0
   Says s = s ≡ reporting n (rules.report (tableOf t) (nodeOf n) r)
 
-  stops : {k : ℕ} → a ≡ clock.Refused k → Says (record { answer = report.Refused k; node = n })
+  stops : {k : ℕ} → a ≡ check.Refused k → Says (record { answer = report.Refused k; node = n })
   unfolding rules.report
   stops h = ap (reporting n) (sym (clock-stops _ (n .latest) (n .progress) (n .common .base) r p h))
 
-  module _ (h : a ≡ clock.Runs) where
+  module _ (h : a ≡ check.Passes) where
     asking : Checked t → Asking t n r
     asking z =
         let o = on-time (n .latest) (n .progress) (n .common .base) r p h in
@@ -53,38 +53,30 @@ module _ {t : Table} {n : Node} (v : Given t n) (r : ℕ) {a : Clock} (p : a ≡
           (rebuilt n (v .exact) (n .progress) (n .completed) (n .running) r ((reported-now n r ((rules.report-of (tableOf t) (nodeOf n) r) .run)) .node .round))
           ∙ ap (reporting n) (sym (clock-runs _ (n .latest) (n .progress) (n .common .base) r p h ∙ passed 11 (done (when-reported (tableOf t) (nodeOf n) r)) (sym k ∙ e)))
 
--- src/lib.rt:294:9
 clock-check-requires : tie.Need-clock-check-requires
 clock-check-requires c κs = search needs
 
--- src/lib.rt:296:24
 enum-known-checked : tie.Need-enum-known-checked
 enum-known-checked c = search needs
 
--- src/lib.rt:297:13
 returns : tie.Need-returns
 returns c = search stops
 
 enum-told : tie.Need-enum-told
 enum-told c = search needs
 
--- src/lib.rt:305:9
 is-open-requires : tie.Need-is-open-requires
 is-open-requires c κs = search needs
 
--- src/lib.rt:307:9
 returns-2 : tie.Need-returns-2
 returns-2 c = search open-11
 
--- src/lib.rt:312:9
 run-at-requires : tie.Need-run-at-requires
 run-at-requires c κs = search asking
 
--- src/lib.rt:313:5
 reported-requires : tie.Need-reported-requires
 reported-requires c κs = search needs
 
--- src/lib.rt:288:1
 returns-3 : tie.Need-returns-3
 returns-3 c = search sends
 

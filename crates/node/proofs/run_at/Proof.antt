@@ -38,19 +38,15 @@ module _ {t : Table} {n : Node} {r : ℕ} (v : Asking t n r) where
     later : b ≡ false → 0 ≡ (rules.report-of (tableOf t) (nodeOf n) r) .run
     later e = sym (ap (run false) e) ∙ by-next
 
--- src/lib.rt:277:9
 returns : tie.Need-returns
 returns c = search runs
 
--- src/lib.rt:280:9
 next-soon-requires : tie.Need-next-soon-requires
 next-soon-requires c κs = search reachable
 
--- src/lib.rt:282:9
 returns-2 : tie.Need-returns-2
 returns-2 c = search soon
 
--- src/lib.rt:272:1
 returns-3 : tie.Need-returns-3
 returns-3 c = search later
 

@@ -18,9 +18,9 @@ use Rattle.node.specs.declared.Starting.{Starting}
 use Rattle.node.specs.declared.StartAnswer.the-variants as starts
 use Rattle.node.specs.declared.Permission.{Permission}
 use Rattle.node.specs.declared.Permission.the-variants as permission
-use Rattle.node.specs.declared.Clock.{Clock}
-use Rattle.node.specs.declared.Clock.the-variants as clock
-use Rattle.node.specs.Node.{nodeOf, clock-rule, clockOf, Given, Asking, permission-rule, permissionOf, Startable, starting, started-now}
+use Rattle.node.specs.declared.Check.{Check}
+use Rattle.node.specs.declared.Check.the-variants as check
+use Rattle.node.specs.Node.{nodeOf, clock-rule, checkOf, Given, Asking, permission-rule, permissionOf, Startable, starting, started-now}
 use Rattle.node.proofs.Laws.{rebuilt, clock-stops, clock-runs, on-time, permission-stops, permission-waits, permission-grants, common-given, progress-within, strictly}
 use borrow.Author.Needs.{needs}
 use Rattle.node.proofs.start_node.Statement.{statement}
@@ -31,15 +31,15 @@ use Rattle.node.proofs.clock_check.Reads as clock-check-reads
 use Rattle.node.proofs.may_start.Reads as may-start-reads
 use Rattle.node.proofs.started.Reads as started-reads
 
-module _ {t : Table} {n : Node} (v : Given t n) (now : ℕ) {a : Clock} (p : a ≡ clockOf (clock-rule (n .latest) (n .progress) (n .common .base) now)) where
+module _ {t : Table} {n : Node} (v : Given t n) (now : ℕ) {a : Check} (p : a ≡ checkOf (clock-rule (n .latest) (n .progress) (n .common .base) now)) where
   abbrev Says : Starting → Type 0
   Says r = r ≡ starting n (rules.start (tableOf t) (nodeOf n) now)
 
-  stops : {k : ℕ} → a ≡ clock.Refused k → Says (record { answer = starts.Refused k; node = n })
+  stops : {k : ℕ} → a ≡ check.Refused k → Says (record { answer = starts.Refused k; node = n })
   unfolding rules.start
   stops h = ap (starting n) (sym (clock-stops _ (n .latest) (n .progress) (n .common .base) now p h))
 
-  module _ (h : a ≡ clock.Runs) where
+  module _ (h : a ≡ check.Passes) where
     asking : Checked t → Asking t n now
     asking z =
         let o = on-time (n .latest) (n .progress) (n .common .base) now p h in
@@ -77,50 +77,39 @@ module _ {t : Table} {n : Node} (v : Given t n) (now : ℕ) {a : Clock} (p : a �
             ∙ ap (λ (x : Node). record { answer = (started-now n now) .answer; node = x }) (rebuilt n (v .exact) (n .progress) (n .completed) true now (n .round))
             ∙ ap (starting n) (sym (all-pass .0))
 
--- src/lib.rt:184:9
 clock-check-requires : tie.Need-clock-check-requires
 clock-check-requires c κs = search needs
 
--- src/lib.rt:186:24
 enum-known-checked : tie.Need-enum-known-checked
 enum-known-checked c = search needs
 
--- src/lib.rt:187:13
 returns : tie.Need-returns
 returns c = search stops
 
 enum-told : tie.Need-enum-told
 enum-told c = search needs
 
--- src/lib.rt:194:9
 may-start-requires : tie.Need-may-start-requires
 may-start-requires c κs = search asking
 
--- src/lib.rt:196:29
 enum-known-permitted : tie.Need-enum-known-permitted
 enum-known-permitted c = search needs
 
--- src/lib.rt:200:27
 enum-known-permitted-2 : tie.Need-enum-known-permitted-2
 enum-known-permitted-2 c = search needs
 
--- src/lib.rt:204:32
 enum-told-2 : tie.Need-enum-told-2
 enum-told-2 c = search needs
 
--- src/lib.rt:204:32
 started-requires : tie.Need-started-requires
 started-requires c κs = search startable
 
--- src/lib.rt:178:1
 returns-2 : tie.Need-returns-2
 returns-2 c = search not-permitted
 
--- src/lib.rt:178:1
 returns-3 : tie.Need-returns-3
 returns-3 c = search waits
 
--- src/lib.rt:178:1
 returns-4 : tie.Need-returns-4
 returns-4 c = search goes
 

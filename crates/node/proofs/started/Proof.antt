@@ -48,15 +48,12 @@ module _ {n : Node} (v : Startable n) where
       ≡ started-now n now
   told now e = ap (λ (i : ℕ). record { answer = starts.Starts i; node = (started-now n now) .node }) (e ∙ sym named)
 
--- src/lib.rt:142:14
 sub-k : tie.Need-sub-k
 sub-k c = search needs
 
--- src/lib.rt:143:9
 task-at-requires : tie.Need-task-at-requires
 task-at-requires c κs = search k-below
 
--- src/lib.rt:137:1
 returns : tie.Need-returns
 returns c = search told
 

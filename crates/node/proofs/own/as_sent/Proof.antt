@@ -17,19 +17,15 @@ present : (d : Report) {x : Entry} {e : Report} → x ≡ entry.Sent e
     → ((d .progress =? e .progress) && (d .completed =? e .completed) && (d .run =? e .run)) ≡ as-sent (reportOf d) (entryOf x)
 present d g = ap (λ (x : Entry). as-sent (reportOf d) (entryOf x)) (sym g)
 
--- src/own.rt:30:27
 enum-told : tie.Need-enum-told
 enum-told c = search needs
 
--- src/own.rt:31:21
 enum-known-entry : tie.Need-enum-known-entry
 enum-known-entry c = search needs
 
--- src/own.rt:26:1
 returns : tie.Need-returns
 returns c = search needs
 
--- src/own.rt:26:1
 returns-2 : tie.Need-returns-2
 returns-2 c = search present
 

@@ -42,23 +42,18 @@ module _ (q : Round) (n : ℕ) where
       let e : getD (q .entries) n no-entry ≡ no-entry = List·getD-eq-default (q .entries) no-entry (omega arith) in
       ⊎-elim (λ k. ap (λ (p : Place). p .entry) (sym e) ∙ there k) past (lt-or-ge n (q .entered))
 
--- src/own.rt:16:9
 returns : tie.Need-returns
 returns c = search (outside, length-of-map)
 
--- src/own.rt:20:9
 returns-2 : tie.Need-returns-2
 returns-2 c = search past
 
--- src/own.rt:22:17
 mul-place : tie.Need-mul-place
 mul-place c = search needs
 
--- src/own.rt:22:17
 element-copy-out-place : tie.Need-element-copy-out-place
 element-copy-out-place c = search needs
 
--- src/own.rt:12:1
 returns-3 : tie.Need-returns-3
 returns-3 c = search there
 
