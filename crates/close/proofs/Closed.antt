@@ -19,7 +19,7 @@ use Rattle.rules.specs.Table.{Table}
 use Rattle.rules.specs.Common.{Job, Common}
 use Rattle.rules.specs.Judge.{Release, Round, new-B, new-O, new-W}
 use Rattle.rules.specs.Insert.{next-E, release, release-all}
-use Rattle.rules.specs.Close.{too-late, too-soon, ill-formed, too-early, too-many, judged, applied, verdict, close}
+use Rattle.rules.specs.Close.{Closed, too-late, too-soon, ill-formed, too-early, too-many, judged, applied, verdict, close}
 use Rattle.rules.proofs.Judging.{B-rises, B-within, O-within}
 use Rattle.table.specs.declared.Table as table
 use Rattle.table.specs.Table.{tableOf, Checked}
@@ -34,7 +34,6 @@ use Rattle.release.specs.declared.listing.Standing.{Standing}
 use Rattle.release.specs.declared.listing.Standing.the-variants.{Stands, Refused}
 use Rattle.release.specs.declared.spacing.Spaced.{Spaced}
 use Rattle.close.specs.declared.Closing.{Closing}
-use Rattle.close.specs.declared.Outcome.the-variants.{Accepted}
 use Rattle.release.specs.Listing.{standing, Listable}
 use Rattle.release.specs.Spacing.{spacing}
 use Rattle.release.specs.Insertion.{put-in, put-all, Packed}
@@ -123,27 +122,15 @@ module _ {t : table.Table} {c : common.Common} (g : Given t c) where
       ap₂ (λ (l n : ℕ). new-B (tableOf t) (commonOf c) (q .time) ((roundOf q) .entries) + 256 <? l + n) (sym (length-is g)) (sym (releases-count q)) in
       rw (p .counted, p .in-time, p .apart, p .formed, p .spaced, same) (by (too-many (tableOf t) (commonOf c) (roundOf q)))
     where
+      k : Common → Closed
+      k d = record { common = d; reply = verdict (tableOf t) (commonOf c) (roundOf q) }
+
       by : (b : Bool)
           → (if b then refusal c 17
-          else record {
-            outcome = Accepted;
-            common = common-as (after c (judgement (tableOf t) (commonOf c) (roundOf q)) (foldl (next-E (tableOf t) (q .time)) (c .earliest) (releasesOf q)) q);
-            classes = (verdict (tableOf t) (commonOf c) (roundOf q)) .classes;
-            back = (verdict (tableOf t) (commonOf c) (roundOf q)) .back;
-            majority = (verdict (tableOf t) (commonOf c) (roundOf q)) .notice;
-          })
-          ≡ closing c (refuse 17 if b else done (record { common = applied (tableOf t) (commonOf c) (roundOf q); reply = verdict (tableOf t) (commonOf c) (roundOf q) }))
+          else closing c (done (k (after c (judgement (tableOf t) (commonOf c) (roundOf q)) (foldl (next-E (tableOf t) (q .time)) (c .earliest) (releasesOf q)) q))))
+          ≡ closing c (refuse 17 if b else done (k (applied (tableOf t) (commonOf c) (roundOf q))))
       by true = refl
-      by false =
-          ap
-          (λ (d : Common). record {
-            outcome = Accepted;
-            common = common-as d;
-            classes = (verdict (tableOf t) (commonOf c) (roundOf q)) .classes;
-            back = (verdict (tableOf t) (commonOf c) (roundOf q)) .back;
-            majority = (verdict (tableOf t) (commonOf c) (roundOf q)) .notice;
-          })
-          (after-applied (tableOf t) c q)
+      by false = ap (λ (d : Common). closing c (done (k d))) (after-applied (tableOf t) c q)
 
 -- the ways out of a close, from what its callees ensure
 module _ (t : table.Table) (c : common.Common) (q : round.Round) {s : Spaced} (e : s ≡ trial (tableOf t) (commonOf c) (roundOf q)) where

@@ -1,4 +1,4 @@
--- What a close answers by value, and the steps to it on the arrays. That they lead to the rules' close is proved in proofs/Applied.antt.
+-- What a close answers by value, and the steps to it on the arrays. That they lead to the rules' close is proved in proofs/Closed.antt.
 use mathlib.Core.Bool.{false}
 use mathlib.Core.Option.{some}
 use mathlib.Core.List.{List, [], map}

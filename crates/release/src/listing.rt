@@ -1,4 +1,4 @@
-// The list of releases before anything is judged: refusals 15 and 16. "15 is tried over the whole list first, then 16."
+// 15, "tried over the whole list first, then 16".
 ghost use mathlib.Core.Path.{_≡_};
 ghost use Prim.Native.Nat.{_≤_};
 ghost use Rattle.round.specs.Round.{releaseOf, releasesOf, roundOf};
