@@ -6,10 +6,12 @@ use native.Mathlib.Omega.{arith}
 use Rattle.rules.specs.Answer.{Answer, done, refused, refused-by}
 use Rattle.rules.specs.Node as rules
 use Rattle.rules.specs.Sound.{SoundNode}
-use Rattle.rules.proofs.Nodes.{new-node-sound, fresh-node-sound, start-keeps, finish-keeps, report-keeps}
+use Rattle.rules.proofs.Nodes.{new-node-sound, fresh-node-sound, start-keeps, finish-keeps, report-keeps, node-close-keeps}
 use Rattle.table.specs.Table.{tableOf, Checked}
 use Rattle.table.specs.declared.Table.{Table}
-use Rattle.table.proofs.Facts.{ranges}
+use Rattle.table.proofs.Facts.{checked-fit, ranges}
+use Rattle.round.specs.declared.Round.{Round}
+use Rattle.round.specs.Round as rounds
 use Rattle.common.specs.Common.{common-as}
 use Rattle.common.proofs.Records.{common-back}
 use Rattle.node.specs.declared.Node.{Node}
@@ -17,7 +19,8 @@ use Rattle.node.specs.declared.Making.{Making}
 use Rattle.node.specs.declared.Starting.{Starting}
 use Rattle.node.specs.declared.Finishing.{Finishing}
 use Rattle.node.specs.declared.Reporting.{Reporting}
-use Rattle.node.specs.Node.{roundOf, round-as, nodeOf, node-as, Given, making, starting, finishing, reporting}
+use Rattle.node.specs.declared.NodeClosing.{NodeClosing}
+use Rattle.node.specs.Node.{roundOf, round-as, nodeOf, node-as, Given, making, starting, finishing, reporting, node-closing}
 
 open-back : (o : Option rules.Open) → roundOf (round-as o) ≡ o
 open-back none = refl
@@ -74,3 +77,11 @@ module _ {t : Table} where
 
     pub report-kept : (time : ℕ) {r : Reporting} → r ≡ reporting n (rules.report (tableOf t) (nodeOf n) time) → Given t (r .node)
     report-kept time p = subst (λ (r : Reporting). Given t (r .node)) (sym p) (reported time (rules.report (tableOf t) (nodeOf n) time) refl)
+
+    closed : Checked t → (q : Round) (a : Answer rules.NodeClosed) → rules.node-close (tableOf t) (nodeOf n) (rounds.roundOf q) ≡ a → Given t ((node-closing n a) .node)
+    closed c q (done k) e = given-node (node-close-keeps (v .sound) (checked-fit c) (rounds.roundOf q) e)
+    closed c q (refused k) e = v
+    closed c q (refused-by k i) e = v
+
+    pub close-kept : Checked t → (q : Round) {r : NodeClosing} → r ≡ node-closing n (rules.node-close (tableOf t) (nodeOf n) (rounds.roundOf q)) → Given t (r .node)
+    close-kept c q p = subst (λ (r : NodeClosing). Given t (r .node)) (sym p) (closed c q (rules.node-close (tableOf t) (nodeOf n) (rounds.roundOf q)) refl)

@@ -4,12 +4,15 @@ use Prim.Native.Nat.{ℕ}
 use Rattle.rules.specs.Node as rules
 use Rattle.table.specs.Table.{tableOf}
 use Rattle.table.specs.declared.Table.{Table}
+use Rattle.round.specs.declared.Round.{Round}
+use Rattle.round.specs.Round.{roundOf}
 use Rattle.node.specs.declared.Node.{Node}
 use Rattle.node.specs.declared.Making.{Making}
 use Rattle.node.specs.declared.Starting.{Starting}
 use Rattle.node.specs.declared.Finishing.{Finishing}
 use Rattle.node.specs.declared.Reporting.{Reporting}
-use Rattle.node.specs.Node.{nodeOf, making, starting, finishing, reporting}
+use Rattle.node.specs.declared.NodeClosing.{NodeClosing}
+use Rattle.node.specs.Node.{nodeOf, making, starting, finishing, reporting, node-closing}
 
 pub fresh-settled : (t : Table) (i : ℕ) {r s : Making} → r ≡ making (rules.fresh-node (tableOf t) i) → s ≡ making (rules.fresh-node (tableOf t) i) → r ≡ s
 fresh-settled t i e d = e ∙ sym d
@@ -24,3 +27,7 @@ finish-settled n now e d = e ∙ sym d
 pub report-settled : (t : Table) (n : Node) (time : ℕ) {r s : Reporting} → r ≡ reporting n (rules.report (tableOf t) (nodeOf n) time)
     → s ≡ reporting n (rules.report (tableOf t) (nodeOf n) time) → r ≡ s
 report-settled t n time e d = e ∙ sym d
+
+pub close-settled : (t : Table) (n : Node) (q : Round) {r s : NodeClosing} → r ≡ node-closing n (rules.node-close (tableOf t) (nodeOf n) (roundOf q))
+    → s ≡ node-closing n (rules.node-close (tableOf t) (nodeOf n) (roundOf q)) → r ≡ s
+close-settled t n q e d = e ∙ sym d

@@ -23,19 +23,15 @@ use Rattle.common.specs.Common.{commonOf, common-as}
 use Rattle.common.specs.Common as values
 use Rattle.close.specs.declared.Closing.{Closing}
 use Rattle.close.specs.declared.Outcome.the-variants as outcome
-use Rattle.node.specs.declared.Sent.{Sent}
 use Rattle.node.specs.declared.Opening.{Opening}
 use Rattle.node.specs.declared.Opening.the-variants as opening
 use Rattle.node.specs.declared.Node.{Node}
 use Rattle.node.specs.declared.MakeAnswer.the-variants as make
 use Rattle.node.specs.declared.Making.{Making}
-use Rattle.node.specs.declared.StartAnswer.{StartAnswer}
 use Rattle.node.specs.declared.StartAnswer.the-variants as starts
 use Rattle.node.specs.declared.Starting.{Starting}
-use Rattle.node.specs.declared.FinishAnswer.{FinishAnswer}
 use Rattle.node.specs.declared.FinishAnswer.the-variants as finish
 use Rattle.node.specs.declared.Finishing.{Finishing}
-use Rattle.node.specs.declared.ReportAnswer.{ReportAnswer}
 use Rattle.node.specs.declared.ReportAnswer.the-variants as report
 use Rattle.node.specs.declared.Reporting.{Reporting}
 use Rattle.node.specs.declared.Permission.{Permission}

@@ -1,6 +1,6 @@
 -- Whether a position lies beyond the offset and the lock: a lemma for each way out of an open round.
-use mathlib.Core.Path.{_≡_, refl, ap}
-use mathlib.Core.Bool.{Bool, true, false, _&&_}
+use mathlib.Core.Path.{_≡_, ap}
+use mathlib.Core.Bool.{true, false}
 use Prim.Native.Nat.{ℕ, _+_, _^_, _≤_, _<_}
 use borrow.Author.Tests.{lt-ltb, le-ltb}
 use Rattle.node.specs.declared.Sent.{Sent}

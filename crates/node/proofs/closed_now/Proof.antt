@@ -1,6 +1,5 @@
 -- The larger of two times, in a node that is closed.
 use mathlib.Core.Path.{_≡_, ap}
-use mathlib.Core.Bool.{Bool}
 use Prim.Native.Nat.{ℕ, max}
 use Rattle.laws.specs.Tests.{_<?_}
 use Rattle.close.specs.declared.Closing.{Closing}

@@ -1,6 +1,6 @@
 -- A finish: a lemma for each way out.
-use mathlib.Core.Path.{_≡_, refl, sym, ap, _∙_}
-use mathlib.Core.Bool.{Bool, true, false, not}
+use mathlib.Core.Path.{_≡_, sym, ap, _∙_}
+use mathlib.Core.Bool.{true, false, not}
 use Prim.Native.Nat.{ℕ, _+_, _^_, _≤_, _<_}
 use native.Mathlib.Omega.{arith}
 use borrow.Author.Tests.{not-false}
@@ -8,13 +8,11 @@ use Rattle.rules.specs.Common.{L}
 use Rattle.rules.proofs.Ranges.{L-below}
 use Rattle.common.specs.Common.{commonOf}
 use Rattle.rules.specs.Node as rules
-use Rattle.rules.specs.Answer.{Answer, refused, refuse_if_else_, done}
 use Rattle.node.specs.declared.Node.{Node}
 use Rattle.node.specs.declared.Check.{Check}
 use Rattle.node.specs.declared.Check.the-variants as check
-use Rattle.node.specs.declared.Finishing.{Finishing}
 use Rattle.node.specs.declared.FinishAnswer.the-variants as finish
-use Rattle.node.specs.Node.{nodeOf, node-as, clock-rule, checkOf, Ours, finishing}
+use Rattle.node.specs.Node.{nodeOf, clock-rule, checkOf, Ours, finishing}
 use Rattle.node.proofs.Laws.{rebuilt, clock-stops, clock-runs}
 use borrow.Author.Needs.{needs}
 use Rattle.node.proofs.finish_node.Statement.{statement}

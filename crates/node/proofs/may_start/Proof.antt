@@ -2,12 +2,12 @@
 use mathlib.Core.Path.{_≡_, sym, ap, _∙_}
 use mathlib.Core.Bool.{Bool, true, false}
 use mathlib.Core.Option.{Option}
-use Prim.Native.Nat.{ℕ, _+_, _^_, _≤_, _<_}
+use Prim.Native.Nat.{ℕ, _+_, _^_, _<_}
 use native.Mathlib.Omega.{arith}
 use lib.Dec.{eqb}
 use borrow.Author.Tests.{eq-eqb, ne-eqb}
 use Rattle.laws.specs.Tests.{found}
-use Rattle.rules.specs.Answer.{Answer, done}
+use Rattle.rules.specs.Answer.{done}
 use Rattle.rules.specs.Common.{L}
 use Rattle.rules.specs.Node as rules
 use Rattle.table.specs.Table.{tableOf}
@@ -21,7 +21,7 @@ use Rattle.common.proofs.Records.{length-is, numbers}
 use Rattle.node.specs.declared.Node.{Node}
 use Rattle.node.specs.declared.Permission.{Permission}
 use Rattle.node.specs.declared.Permission.the-variants as permission
-use Rattle.node.specs.Node.{nodeOf, roundOf, beyond-lock-at, broken-at, Lockable, Given, Asking, permission-rule, permissionOf}
+use Rattle.node.specs.Node.{nodeOf, roundOf, beyond-lock-at, broken-at, Lockable, Asking, permission-rule, permissionOf}
 use Rattle.node.proofs.Laws.{stopped, passed, stopped-by, passed-by, common-given, progress-within, strictly}
 use borrow.Author.Needs.{needs}
 use Rattle.node.proofs.may_start.Statement.{statement}

@@ -1,12 +1,12 @@
 -- Whether the next job starts before the round ends: a lemma for each way out.
-use mathlib.Core.Path.{_≡_, refl, sym, ap, _∙_}
-use mathlib.Core.Bool.{Bool, true, false, not, _&&_, _||_}
+use mathlib.Core.Path.{_≡_, refl}
+use mathlib.Core.Bool.{Bool, true, false, not, _||_}
 use mathlib.Core.Option.{Option, none, some}
 use Prim.Native.Nat.{ℕ, _+_, _^_, _≤_, _<_}
 use native.Mathlib.Omega.{arith}
 use borrow.Author.Tests.{lt-leb, le-leb}
 use Rattle.laws.specs.Tests.{_<?_, _≤?_, if_then_else_, found}
-use Rattle.rules.specs.Common.{L, projection, breaker, within-bound}
+use Rattle.rules.specs.Common.{L, projection, breaker}
 use Rattle.rules.specs.Common as rules
 use Rattle.rules.proofs.Tables.{fit, timeout-small}
 use Rattle.table.specs.Table.{tableOf}

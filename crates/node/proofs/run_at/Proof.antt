@@ -1,7 +1,7 @@
 -- The run of a report: a lemma for each way out.
 use mathlib.Core.Path.{_≡_, sym, ap, _∙_}
 use mathlib.Core.Bool.{Bool, true, false, _||_}
-use Prim.Native.Nat.{ℕ, _≤_}
+use Prim.Native.Nat.{ℕ}
 use Rattle.laws.specs.Tests.{if_then_else_}
 use Rattle.rules.specs.Node as rules
 use Rattle.table.specs.Table.{tableOf}

@@ -4,11 +4,10 @@ use mathlib.Core.Bool.{true}
 use Prim.Native.Nat.{ℕ, _+_, _-_, _<_}
 use native.Mathlib.Omega.{arith}
 use lib.ListN.{getD}
-use Rattle.rules.specs.Common.{Job, no-job, job-at}
+use Rattle.rules.specs.Common.{no-job, job-at}
 use Rattle.common.specs.Common.{commonOf}
 use Rattle.common.proofs.Records.{job-there, length-is, numbers}
 use Rattle.node.specs.declared.Node.{Node}
-use Rattle.node.specs.declared.Starting.{Starting}
 use Rattle.node.specs.declared.StartAnswer.the-variants as starts
 use Rattle.node.specs.Node.{Startable, started-now}
 use Rattle.node.proofs.Laws.{common-given}

@@ -1,6 +1,6 @@
 -- As sent, by its three numbers.
 use mathlib.Core.Path.{_≡_, sym, ap}
-use mathlib.Core.Bool.{Bool, _&&_}
+use mathlib.Core.Bool.{_&&_}
 use Rattle.laws.specs.Tests.{_=?_}
 use Rattle.rules.specs.Node.{as-sent}
 use Rattle.round.specs.declared.Report.{Report}
