@@ -26,7 +26,7 @@ use Rattle.table.specs.Table.{tableOf, Checked}
 use Rattle.round.specs.declared.Round as round
 use Rattle.round.specs.Round.{roundOf, releasesOf}
 use Rattle.common.specs.declared.Common as common
-use Rattle.common.specs.Common.{job-of, commonOf, common-as, Given}
+use Rattle.common.specs.Common.{job-of, commonOf, Given}
 use Rattle.common.proofs.Records.{numbers, length-is}
 use Rattle.judge.specs.declared.Judgement.{Judgement}
 use Rattle.judge.specs.Judgement.{judgement, Ready}
