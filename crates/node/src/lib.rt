@@ -114,6 +114,7 @@ fn new_node(number: u64) -> Node
     ensures { λ r. ⌜ r ≡ node-as (new-node number) ⌝ }
 {
     let common = Common::fresh();
+    let round = Opening::Shut;
     Node {
         number,
         common,
@@ -121,7 +122,7 @@ fn new_node(number: u64) -> Node
         completed: 0,
         running: false,
         latest: 0,
-        round: Opening::Shut,
+        round,
     }
 }
 
@@ -210,12 +211,12 @@ fn started(node: Node, now: u64) -> Starting
     let common = node.common;
     let k = (node.progress - common.base) as usize;
     let task = common::task_at(&common.tasks, k);
-    let mut next = node;
-    next.running = true;
-    next.latest = now;
+    let mut begun = node;
+    begun.running = true;
+    begun.latest = now;
     Starting {
         answer: StartAnswer::Starts(task as u64),
-        node: next,
+        node: begun,
     }
 }
 
@@ -364,8 +365,8 @@ pub fn report_node(table: Table, node: Node, r: u64) -> Reporting
         Check::Passes => {}
     }
     let round = node.round;
-    let opened = is_open(round);
-    if opened {
+    let already = is_open(round);
+    if already {
         return Reporting {
             answer: ReportAnswer::Refused(11),
             node,
