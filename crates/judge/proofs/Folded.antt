@@ -13,9 +13,9 @@ use Rattle.laws.proofs.Search.{lowest-same}
 use Rattle.rules.specs.Table.{Table}
 use Rattle.rules.specs.Common.{Common, L}
 use Rattle.rules.specs.Judge.{Report, numbers, class, counts, reach, new-O, least-progress, start-of, largest-start, reaches, in-set, back-runner, new-B, new-W}
-use Rattle.judge.specs.declared.passes.Classed.{Classed}
-use Rattle.judge.specs.declared.passes.Back.{Back}
-use Rattle.judge.specs.Classed.{no-class, class-in, in-front, front-step, rear-step, start-step, is-back, back-of}
+use Rattle.passes.specs.declared.Classed.{Classed}
+use Rattle.passes.specs.declared.Back.{Back}
+use Rattle.passes.specs.Classed.{no-class, class-in, in-front, front-step, rear-step, start-step, is-back, back-of}
 
 module _ {A B : Type 0} where
   pub map-map : {C : Type 0} (f : A → B) (g : B → C) (l : List A) → map g (map f l) ≡ map (λ x. g (f x)) l

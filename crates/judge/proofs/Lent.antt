@@ -20,7 +20,7 @@ use Rattle.common.specs.Raw.{Summable}
 use Rattle.common.proofs.Records as record-of
 use Rattle.common.proofs.Raw.{projection-raw, breaker-raw, summable, boundable}
 use Rattle.judge.specs.declared.class.Before.{Before}
-use Rattle.judge.specs.Classed.{in-front}
+use Rattle.passes.specs.Classed.{in-front}
 use Rattle.judge.specs.Lent.{before, malformed-at, end-at, broken-at, over-at, late-at, class-at, Judgeable}
 
 -- the sum of fewer asks less

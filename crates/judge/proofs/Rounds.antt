@@ -26,10 +26,10 @@ use Rattle.round.specs.declared.Place.{Place}
 use Rattle.round.specs.declared.Round.{Round}
 use Rattle.round.specs.Round.{entryOf, entriesOf, roundOf, no-entry}
 use Rattle.judge.specs.declared.class.Before.{Before}
-use Rattle.judge.specs.declared.passes.Classed.{Classed}
-use Rattle.judge.specs.declared.passes.Back.{Back}
+use Rattle.passes.specs.declared.Classed.{Classed}
+use Rattle.passes.specs.declared.Back.{Back}
 use Rattle.judge.specs.Judgement.{judgement, Ready}
-use Rattle.judge.specs.Classed.{no-class, class-in, in-front, front-step, back-of}
+use Rattle.passes.specs.Classed.{no-class, class-in, in-front, front-step, back-of}
 use Rattle.judge.specs.Lent.{before, start-at, classed-at, Judgeable}
 use Rattle.judge.proofs.Lent.{class-same, judgeable}
 use Rattle.judge.proofs.Folded.{map-map, classed-as, classes-same, offset-same, back-same, counted-same}

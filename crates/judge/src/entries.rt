@@ -1,6 +1,6 @@
 // The entries of a round, each with its class and what the passes read of it.
 use crate::class::Before;
-use crate::passes::Classed;
+use passes::Classed;
 use round::Entry;
 use round::Place;
 use round::Report;
@@ -13,7 +13,7 @@ ghost use Rattle.laws.specs.Tests.{if_then_else_};
 ghost use Rattle.laws.specs.Lists.{pad};
 ghost use Rattle.rules.specs.Judge.{numbers};
 ghost use Rattle.round.specs.Round.{reportOf, report-as, entryOf};
-ghost use Rattle.judge.specs.Classed.{no-class, in-front};
+ghost use Rattle.passes.specs.Classed.{no-class, in-front};
 ghost use Rattle.judge.specs.Lent.{start-at, classed-at, Judgeable};
 
 // A missing entry has no numbers; nothing rests on these.
@@ -35,7 +35,7 @@ fn front_of(class: u8, e: Report) -> u64
     requires { ⌜ (in-front class ≡ true → e .progress + e .run < 2 ^ 56) ⌝ }
     ensures { λ r. ⌜ r ≡ (if in-front class then e .progress + e .run else 0) ⌝ }
 {
-    if crate::passes::counts(class) {
+    if passes::counts(class) {
         return e.progress + e.run;
     }
     0

@@ -1,7 +1,6 @@
 // How a round is judged.
 pub mod class;
 mod entries;
-mod passes;
 
 use class::Before;
 use common::Common;

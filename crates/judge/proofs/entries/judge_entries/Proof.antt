@@ -5,7 +5,7 @@ use borrow.Author.Needs.{needs}
 use Rattle.laws.proofs.Lists.{length-of-map}
 use Rattle.laws.proofs.Folds.{Filled, fill-start, fill-next, fill-end}
 use Rattle.round.specs.Round.{entryOf}
-use Rattle.judge.specs.Classed.{no-class}
+use Rattle.passes.specs.Classed.{no-class}
 use Rattle.judge.specs.Lent.{classed-at}
 use Rattle.judge.proofs.entries.judge_entries.Statement.{statement}
 use Rattle.judge.proofs.entries.judge_entries.Tie as tie

@@ -1,0 +1,2 @@
+-- One step of each pass, as the contracts cite it.
+pub mod Classed
