@@ -64,7 +64,7 @@ smaller-requires : tie.Need-smaller-requires Inv-loop μ-loop
 smaller-requires c κs = search needs
 
 loop-holds : tie.Need-loop-holds Inv-loop μ-loop
-loop-holds c = search inv-start
+loop-holds c = inv-start (c .before .pre) (c .smaller .ensures)
 
 earliest-at-requires : tie.Need-earliest-at-requires Inv-loop μ-loop
 earliest-at-requires c κs = search (needs, inv-known)
@@ -79,7 +79,9 @@ add-if1 : tie.Need-add-if1 Inv-loop μ-loop
 add-if1 c = search inv-sum
 
 returns : tie.Need-returns Inv-loop μ-loop
-returns c = search inv-found
+returns c =
+    let e = c .before .before in
+    inv-found (e .before .before .loop .inv) (e .before .loop-test .taken) (e .earliest-at .ensures) (c .if1 .taken)
 
 add-i : tie.Need-add-i Inv-loop μ-loop
 add-i c = search needs
@@ -88,10 +90,12 @@ loop-less : tie.Need-loop-less Inv-loop μ-loop
 loop-less c = search needs
 
 loop-again : tie.Need-loop-again Inv-loop μ-loop
-loop-again c = search inv-next
+loop-again c =
+    let e = c .before .before in
+    inv-next (e .before .before .loop .inv) (e .before .loop-test .taken) (e .earliest-at .ensures) (c .if1 .left)
 
 returns-2 : tie.Need-returns-2 Inv-loop μ-loop
-returns-2 c = search inv-end
+returns-2 c = inv-end (c .before .loop .inv) (c .loop-test .left)
 
 pub breach-at-spec : {M : Type 1} → statement M
 breach-at-spec =

@@ -72,10 +72,12 @@ loop-less : tie.Need-loop-less Inv-loop μ-loop
 loop-less c = search needs
 
 loop-again : tie.Need-loop-again Inv-loop μ-loop
-loop-again c = search inv-next
+loop-again c =
+    let i = c .before in
+    inv-next (i .before .before .loop .inv) (i .before .loop-test .taken) (i .task-at .ensures .0)
 
 returns : tie.Need-returns Inv-loop μ-loop
-returns c = search inv-end
+returns c = inv-end (c .before .loop .inv) (c .loop-test .left)
 
 pub projected-spec : {M : Type 1} → statement M
 projected-spec =
