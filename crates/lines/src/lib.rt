@@ -11,6 +11,7 @@ use text::put_text;
 
 mod text; // text.rt: bytes as they are, and numbers in decimal
 
+// A byte as a number: this asks no proof that it fits.
 fn wide(b: u8) -> u64
     ensures { λ r. ⌜ (b ≡ r) × (r < 256) ⌝ }
 {
@@ -25,7 +26,7 @@ pub fn refused_line(buf: &mut [u8; 8192], number: u64) -> usize
     put_text(buf, end, b"\n")
 }
 
-// "position:task of each job kept, blank between".
+// One "position:task", behind a blank. A task has at most three digits, so that 25 bytes are enough.
 fn put_job(buf: &mut [u8], from: usize, position: u64, task: u64) -> usize
     requires { ⌜ (task < 256) × (from + 42 ≤ length (now buf)) ⌝ }
     ensures { λ r. ⌜ PutWithin 25 (now (buf .entry)) from (job-text position task) (now (buf .exit)) r ⌝ }
@@ -34,6 +35,7 @@ fn put_job(buf: &mut [u8], from: usize, position: u64, task: u64) -> usize
     put_field(buf, at, b":", task)
 }
 
+// "position:task of each job kept, blank between": the job at the first place stands at the position past the base.
 fn put_jobs(buf: &mut [u8], from: usize, base: u64, tasks: &[u8], count: usize) -> usize
     requires { ⌜ (count ≤ length (now tasks)) × (base + count < 2 ^ 64) × (from + 25 * count + 17 ≤ length (now buf)) ⌝ }
     ensures { λ r. ⌜ PutWithin (25 * count) (now (buf .entry)) from (jobs-from (base + 1) (jobs-of (take count (now (tasks .entry))))) (now (buf .exit)) r ⌝ }
@@ -49,7 +51,7 @@ fn put_jobs(buf: &mut [u8], from: usize, base: u64, tasks: &[u8], count: usize) 
     at
 }
 
-// "last, position:task of each job kept, blank between, or `order` alone".
+// The order line: the word, and the jobs behind it, "or `order` alone".
 pub fn order_line(buf: &mut [u8; 8192], base: u64, tasks: &[u8; 256], count: usize) -> usize
     requires { ⌜ (count ≤ 256) × (base + count < 2 ^ 64) ⌝ }
     ensures { λ r. ⌜ Front (now (buf .entry)) (printed (order (base + 1) (jobs-of (take count (now (tasks .entry)))))) (now (buf .exit)) r ⌝ }
@@ -59,7 +61,7 @@ pub fn order_line(buf: &mut [u8; 8192], base: u64, tasks: &[u8; 256], count: usi
     put_text(buf, end, b"\n")
 }
 
-// "the m classes".
+// "the m classes", a digit each.
 fn put_classes(buf: &mut [u8], from: usize, classes: &[u8], m: usize) -> usize
     requires { ⌜ (m ≤ length (now classes)) × (from + m ≤ length (now buf)) × Digits (now classes) ⌝ }
     ensures { λ r. ⌜ PutWithin m (now (buf .entry)) from (map (λ d. 48 + d) (take m (now (classes .entry)))) (now (buf .exit)) r ⌝ }
