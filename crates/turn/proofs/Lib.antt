@@ -1,0 +1,3 @@
+-- Laws that the proofs of the functions share, and what follows from their contracts.
+pub mod Counts
+pub mod Read

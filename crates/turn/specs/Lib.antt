@@ -1,0 +1,2 @@
+-- What a turn answers, in the words of the rules.
+pub mod Turn
