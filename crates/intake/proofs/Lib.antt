@@ -2,3 +2,5 @@
 pub mod Two
 pub mod Tasks
 pub mod Parts
+pub mod Final
+pub mod Settled
