@@ -38,7 +38,7 @@ pub record Window {A : Type 0} (most : ℕ) (rd : Reads A) : Type 0 where
   pub stays : (s t : List ℕ) → Same (rd s) t (rd (s ++ t))
   pub short : (s : List ℕ) → Short most s (rd s)
 
-give-window : {A : Type 0} {a : A} → Window 0 (give a)
+pub give-window : {A : Type 0} {a : A} → Window 0 (give a)
 give-window = record { stays = λ s t. refl; short = λ s. omega arith }
 
 refused-window : {A : Type 0} (n : ℕ) → (n ≡ 18 → ⊥) → Window {A = A} 0 (λ s. refused n)
@@ -69,7 +69,7 @@ module _ {A B : Type 0} (f : A → Reads B) where
   short-after m n s (refused k) p h = λ e. let q = p e in omega arith
   short-after m n s (refused-by k i) p h = λ e. let q = p e in omega arith
 
-then-window : {A B : Type 0} {m n : ℕ} {rd : Reads A} {f : A → Reads B} → Window m rd → ((x : A) → Window n (f x)) → Window (m + n) (rd >>= f)
+pub then-window : {A B : Type 0} {m n : ℕ} {rd : Reads A} {f : A → Reads B} → Window m rd → ((x : A) → Window n (f x)) → Window (m + n) (rd >>= f)
 then-window {m = m} {n = n} {rd = rd} {f = f} w h = record {
   stays = λ s t. same-after f (rd s) t (rd (s ++ t)) (w .stays s t) (λ x s. h x .stays s t);
   short = λ s. short-after f m n s (rd s) (w .short s) (λ x s. h x .short s);
