@@ -9,7 +9,7 @@ ghost use Rattle.lines.specs.Lines.{Digits, job-text, jobs-of, numbers-t
 use text::put_field;
 use text::put_text;
 
-mod text; // text.rt: bytes as they are, and numbers in decimal
+pub mod text; // text.rt: bytes as they are, and numbers in decimal
 
 // A byte as a number: this asks no proof that it fits.
 fn wide(b: u8) -> u64

@@ -6,7 +6,7 @@ ghost use lib.ListN.{length};
 ghost use Rattle.rules.specs.Session.{decimal};
 ghost use Rattle.lines.specs.Text.{Put, PutWithin};
 
-pub(crate) fn put_text(buf: &mut [u8], from: usize, text: &[u8]) -> usize
+pub fn put_text(buf: &mut [u8], from: usize, text: &[u8]) -> usize
     requires { ⌜ from + length (now text) ≤ length (now buf) ⌝ }
     ensures { λ r. ⌜ Put (now (buf .entry)) from (now (text .entry)) (now (buf .exit)) r ⌝ }
 {
