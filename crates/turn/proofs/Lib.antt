@@ -4,3 +4,4 @@ pub mod Read
 pub mod Final
 pub mod Rounds
 pub mod Settled
+pub mod Gathering

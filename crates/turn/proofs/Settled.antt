@@ -14,10 +14,10 @@ use Rattle.rules.specs.Sound.{Sound}
 use Rattle.rules.proofs.Closing.{close-keeps, close-gives}
 use Rattle.table.specs.declared.Table.{Table}
 use Rattle.table.specs.Table.{tableOf, Checked}
-use Rattle.table.proofs.Facts.{checked-fit}
+use Rattle.table.proofs.Facts.{checked-fit, ranges}
 use Rattle.common.specs.declared.Common.{Common}
 use Rattle.common.specs.Common.{commonOf, Given}
-use Rattle.common.proofs.Records.{given}
+use Rattle.common.proofs.Records.{given, numbers}
 use Rattle.lines.specs.Lines.{Digits}
 use Rattle.lines.proofs.Classes.{verdict-digits}
 use Rattle.intake.proofs.Final.{Short}
@@ -25,6 +25,7 @@ use Rattle.turn.specs.declared.TurnAnswer.{TurnAnswer}
 use Rattle.turn.specs.declared.TurnAnswer.the-variants as answer
 use Rattle.turn.specs.declared.Turn.{Turn}
 use Rattle.turn.specs.Turn.{Turned, closed-by, turn-of, turnRead}
+use Rattle.turn.specs.Gather.{Countable, Printable}
 use Rattle.turn.proofs.Final.{turn-window}
 
 -- what is known of a turn that was done
@@ -101,3 +102,13 @@ module _ (t : Table) (c : Common) (s : List ℕ) {r : Turn} (p : r ≡ turnRead 
           let o : r .answer ≡ answer.Refused n = ap (λ (r : Turn). r .answer) e in
           let m : n ≡ 18 = cc in
           h m
+
+-- what was given back can be printed
+pub given-countable : {t : Table} {c : Common} → Given t c → Countable c
+given-countable g =
+    let n = numbers g in
+    record { places = n .places; few = n .few; last = omega (arith, n .length-below) }
+
+pub turn-printable : (t : Table) (c : Common) (s : List ℕ) {r : Turn} → r ≡ turnRead c s (turn-of (tableOf t) (commonOf c) s) → Checked t → Given t c → r .answer ≡ answer.Closed → Printable (t .nodes) r
+turn-printable t c s p k g w =
+    record { nodes-few = (ranges k) .nodes; digits = turn-digits t c s p k g w; counts = given-countable (turn-given t c s p k g) }

@@ -11,6 +11,8 @@ use table::Table;
 use written::reader::RecordAnswer;
 use written::reader::read_record;
 
+pub mod gather; // gather.rt: its line, and the others
+
 pub enum TurnAnswer {
     Closed,
     Refused(u64),

@@ -1,0 +1,20 @@
+-- The refusal, behind the lines that are gathered.
+use native.Mathlib.Omega.{arith}
+use borrow.Author.Needs.{needs}
+use Rattle.turn.proofs.Gathering.{may-put, gathered}
+use Rattle.turn.proofs.gather.gather_refused.Statement.{statement}
+use Rattle.turn.proofs.gather.gather_refused.Tie as tie
+
+refused-line-requires : tie.Need-refused-line-requires
+refused-line-requires c κs = search needs
+
+put-front-requires : tie.Need-put-front-requires
+put-front-requires c κs =
+    let a = c .before .before .before .before .before .args in
+    may-put (c .before .before .before .refused-line .ensures) (search needs) (a .output .now) (a .at) (search needs) (omega arith)
+
+returns : tie.Need-returns
+returns c = gathered (c .before .before .before .before .refused-line .ensures) (search needs) (c .put-front .ensures)
+
+pub gather-refused-spec : {M : Type 1} → statement M
+gather-refused-spec = tie.close (tie.spec refused-line-requires put-front-requires returns)
