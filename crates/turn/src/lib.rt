@@ -12,6 +12,7 @@ use written::reader::RecordAnswer;
 use written::reader::read_record;
 
 pub mod gather; // gather.rt: its line, and the others
+pub mod window; // window.rt: the bytes not yet used
 
 pub enum TurnAnswer {
     Closed,
