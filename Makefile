@@ -14,7 +14,7 @@ rust:
 # CANAL: any file of decimal numbers.
 CANAL ?= examples/worked-canal.txt
 run: session rust
-	@rust/target/release/pack $(CANAL) | target/bin/session
+	@rust/target/release/pack $(CANAL) | bin/session
 
 # For longer: make trials TRIALS='--seed 7 --sessions 200000'
 TRIALS ?= --sessions 6000
