@@ -19,7 +19,7 @@ use Rattle.rules.specs.Numbers.{Read, Reads, _>>=_, after, give, groups-after, 
 use Rattle.rules.specs.Written.{times, counted, read-release, read-report, read-entry, read-record}
 use Rattle.rules.specs.Session.{read-task, read-table}
 use Rattle.intake.specs.Table.{answered, under, checked-tasks, counted-tasks}
-use Rattle.intake.proofs.Two.{two-then}
+use Rattle.number.proofs.Two.{two-then}
 use Rattle.intake.proofs.Parts.{table-parts}
 
 -- what is read of s stays so with t behind it

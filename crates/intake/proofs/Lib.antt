@@ -1,5 +1,4 @@
 -- Laws that the proofs of the functions share.
-pub mod Two
 pub mod Tasks
 pub mod Parts
 pub mod Final

@@ -1,20 +1,16 @@
 -- A table is two numbers, the count with its refusal, and its tasks with theirs: the rules' own reading, grouped.
-use mathlib.Core.Path.{_≡_, refl, sym, ap, _∙_}
+use mathlib.Core.Path.{_≡_, refl}
 use mathlib.Core.Bool.{Bool, true, false}
 use mathlib.Core.List.{List}
 use Prim.Native.Nat.{ℕ}
 use Rattle.rules.specs.Answer.{Answer, done, refused, refused-by, refuse_if_else_}
 use Rattle.rules.specs.Table as rules
-use Rattle.rules.specs.Numbers.{Read, Reads, after, give, number}
+use Rattle.rules.specs.Numbers.{Reads, after, give, number}
 use Rattle.rules.specs.Written.{times}
 use Rattle.rules.specs.Session.{read-task, read-table}
+use Rattle.number.proofs.After.{after-same}
+use Rattle.number.proofs.Two.{two-then}
 use Rattle.intake.specs.Table.{under, checked-tasks, counted-tasks}
-use Rattle.intake.proofs.Two.{two-then}
-
-after-same : {A B : Type 0} (a : Answer (Read A)) {f g : A → Reads B} → ((x : A) (s : List ℕ) → f x s ≡ g x s) → after a f ≡ after a g
-after-same (done x) e = e (x .value) (x .rest)
-after-same (refused n) e = refl
-after-same (refused-by n i) e = refl
 
 refuse-first : {A B : Type 0} (n : ℕ) (b : Bool) (x : A) (s : List ℕ) (f : A → Reads B) (g : Reads B) → f x s ≡ g s → after (refuse n if b else give x s) f ≡ refuse n if b else g s
 refuse-first n true x s f g e = refl

@@ -1,20 +1,18 @@
 -- A list of tasks in the table's four arrays.
 use mathlib.Core.Path.{_≡_, refl, sym, ap, _∙_}
-use mathlib.Core.List.{List, [], _∷_, _++_, map}
-use Prim.Native.Nat.{ℕ, zero, suc, _-_, _≤_, _<_}
+use mathlib.Core.List.{List, [], _∷_, map}
+use Prim.Native.Nat.{ℕ, zero, suc, _-_, _<_}
 use native.Mathlib.Omega.{arith}
 use lib.ListN.{length, set, getD, replicate, length-map, List·getD-map}
 use lib.Seq.{ext-getD}
-use Rattle.laws.specs.Lists.{rows, pad}
+use Rattle.laws.specs.Lists.{pad}
 use Rattle.laws.proofs.Lists.{map-append, getD-pad, length-rows, rows-at}
 use Rattle.rules.specs.Table as rules
-use Rattle.rules.specs.Numbers.{Read, Reads}
-use Rattle.rules.specs.Written.{times}
 use Rattle.rules.specs.Session.{read-task}
-use Rattle.rules.proofs.Reading.{Gives, so, gives-after, Takes, number-takes, give-takes, then-takes, times-takes}
+use Rattle.rules.proofs.Reading.{Takes, number-takes, give-takes, then-takes}
 use Rattle.table.specs.declared.Table.{Table}
 use Rattle.table.specs.Table.{row, tableOf}
-use Rattle.written.proofs.Told.{Tells}
+use Rattle.number.proofs.Told.{Tells}
 use Rattle.intake.specs.declared.Task.{Task}
 use Rattle.intake.specs.declared.TaskRead.the-variants as task
 use Rattle.intake.specs.Table.{task-as, table-as, blank-table, with-task}

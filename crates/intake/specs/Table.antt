@@ -9,7 +9,7 @@ use Rattle.rules.specs.Numbers.{Read, Reads, _>>=_, give, number}
 use Rattle.rules.specs.Written.{times}
 use Rattle.rules.specs.Session.{read-task}
 use Rattle.table.specs.declared.Table.{Table}
-use Rattle.written.specs.Numbers.{told}
+use Rattle.number.specs.Numbers.{told}
 use Rattle.intake.specs.declared.Task.{Task}
 use Rattle.intake.specs.declared.TaskRead.{TaskRead}
 use Rattle.intake.specs.declared.TaskRead.the-variants as task

@@ -5,12 +5,12 @@ ghost use lib.ListN.{length, drop};
 ghost use Rattle.rules.specs.Written.{times};
 ghost use Rattle.rules.specs.Session.{read-task, read-table};
 ghost use Rattle.intake.specs.Table.{taskRead, tableRead, tasksRead, blank-table, no-table, with-task, last-two, checked-tasks, counted-tasks};
+use number::NumberRead;
+use number::read_number;
 use table::Table;
 use table::TableCheck;
 use table::check_table;
 use table::out_of_range;
-use written::number::NumberRead;
-use written::number::read_number;
 
 // "the four numbers per task": C, T, D and S.
 struct Task {

@@ -16,9 +16,9 @@ use Rattle.round.specs.Round.{roundOf, round-as}
 use Rattle.round.proofs.Same.{round-there}
 use Rattle.common.specs.declared.Common.{Common}
 use Rattle.common.specs.Common.{commonOf, common-as}
-use Rattle.written.specs.declared.reader.RecordAnswer.the-variants as read
-use Rattle.written.specs.declared.reader.RecordRead.{RecordRead}
-use Rattle.written.specs.Records.{recordRead, record-from}
+use Rattle.reader.specs.declared.RecordAnswer.the-variants as read
+use Rattle.reader.specs.declared.RecordRead.{RecordRead}
+use Rattle.reader.specs.Records.{recordRead, record-from}
 use Rattle.close.specs.declared.Closing.{Closing}
 use Rattle.close.specs.declared.Outcome.the-variants as outcome
 use Rattle.close.specs.Close.{closing, refusal}

@@ -1,16 +1,15 @@
 -- So many tasks, read into the arrays one by one.
-use mathlib.Core.Path.{_≡_, refl, sym, ap, _∙_}
+use mathlib.Core.Path.{_≡_, refl, sym, _∙_}
 use mathlib.Core.List.{List, []}
 use Prim.Native.Nat.{ℕ, _+_, _-_, _≤_, _<_}
 use native.Mathlib.Omega.{arith}
 use borrow.Author.Needs.{needs}
 use lib.ListN.{length, drop, set}
-use Rattle.rules.specs.Table as rules
 use Rattle.rules.specs.Written.{times}
 use Rattle.rules.specs.Session.{read-task}
 use Rattle.table.specs.declared.Table.{Table}
-use Rattle.written.proofs.Told.{told-value, told-stop}
-use Rattle.written.proofs.Listing.{Listing, listing-start, listing-done, listing-stop, listing-more}
+use Rattle.number.proofs.Told.{told-value, told-stop}
+use Rattle.number.proofs.Listing.{Listing, listing-start, listing-done, listing-stop, listing-more}
 use Rattle.intake.specs.declared.Task.{Task}
 use Rattle.intake.specs.declared.TaskRead.{TaskRead}
 use Rattle.intake.specs.declared.TaskRead.the-variants as task

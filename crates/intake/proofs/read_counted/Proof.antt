@@ -7,12 +7,12 @@ use lib.ListN.{length, drop}
 use Rattle.laws.proofs.Tests.{none-of}
 use Rattle.rules.specs.Table as rules
 use Rattle.rules.specs.Numbers.{number}
-use Rattle.written.specs.declared.number.NumberRead.{NumberRead}
-use Rattle.written.specs.declared.number.NumberRead.the-variants as number
-use Rattle.written.specs.Numbers.{numberRead}
+use Rattle.number.specs.declared.NumberRead.{NumberRead}
+use Rattle.number.specs.declared.NumberRead.the-variants as number
+use Rattle.number.specs.Numbers.{numberRead}
 use Rattle.intake.specs.declared.TableRead.{TableRead}
 use Rattle.intake.specs.Table.{no-table, tableRead, checked-tasks, counted-tasks}
-use Rattle.intake.proofs.Two.{one-bad, one-done}
+use Rattle.number.proofs.Two.{one-bad, one-done}
 use borrow.Author.Needs.{needs}
 use borrow.Author.Tests.{ltb-false}
 use Rattle.intake.proofs.read_counted.Statement.{statement}

@@ -5,13 +5,13 @@ use Prim.Native.Nat.{ℕ}
 use lib.ListN.{drop}
 use Rattle.rules.specs.Table as rules
 use Rattle.rules.specs.Numbers.{Reads, give, number}
-use Rattle.written.specs.declared.number.NumberRead.{NumberRead}
-use Rattle.written.specs.declared.number.NumberRead.the-variants as number
-use Rattle.written.specs.Numbers.{numberRead}
-use Rattle.written.proofs.Told.{told-done}
+use Rattle.number.specs.declared.NumberRead.{NumberRead}
+use Rattle.number.specs.declared.NumberRead.the-variants as number
+use Rattle.number.specs.Numbers.{numberRead}
+use Rattle.number.proofs.Told.{told-done}
 use Rattle.intake.specs.declared.TaskRead.the-variants as task
 use Rattle.intake.specs.Table.{task-as, taskRead, last-two}
-use Rattle.intake.proofs.Two.{one-done, first-bad, second-bad, both}
+use Rattle.number.proofs.Two.{one-done, first-bad, second-bad, both}
 use borrow.Author.Needs.{needs}
 use Rattle.intake.proofs.read_last_two.Statement.{statement}
 use Rattle.intake.proofs.read_last_two.Tie as tie

@@ -5,12 +5,12 @@ use Prim.Native.Nat.{ℕ}
 use lib.ListN.{drop}
 use Rattle.rules.specs.Numbers.{number}
 use Rattle.rules.specs.Session.{read-table}
-use Rattle.written.specs.declared.number.NumberRead.{NumberRead}
-use Rattle.written.specs.declared.number.NumberRead.the-variants as number
-use Rattle.written.specs.Numbers.{numberRead}
+use Rattle.number.specs.declared.NumberRead.{NumberRead}
+use Rattle.number.specs.declared.NumberRead.the-variants as number
+use Rattle.number.specs.Numbers.{numberRead}
 use Rattle.intake.specs.declared.TableRead.{TableRead}
 use Rattle.intake.specs.Table.{no-table, tableRead, counted-tasks}
-use Rattle.intake.proofs.Two.{first-bad, second-bad, both}
+use Rattle.number.proofs.Two.{first-bad, second-bad, both}
 use Rattle.intake.proofs.Parts.{table-parts}
 use borrow.Author.Needs.{needs}
 use Rattle.intake.proofs.read_table.Statement.{statement}

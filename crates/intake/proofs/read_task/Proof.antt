@@ -5,13 +5,13 @@ use Prim.Native.Nat.{ℕ}
 use lib.ListN.{drop}
 use Rattle.rules.specs.Numbers.{number}
 use Rattle.rules.specs.Session.{read-task}
-use Rattle.written.specs.declared.number.NumberRead.{NumberRead}
-use Rattle.written.specs.declared.number.NumberRead.the-variants as number
-use Rattle.written.specs.Numbers.{numberRead}
+use Rattle.number.specs.declared.NumberRead.{NumberRead}
+use Rattle.number.specs.declared.NumberRead.the-variants as number
+use Rattle.number.specs.Numbers.{numberRead}
 use Rattle.intake.specs.declared.TaskRead.{TaskRead}
 use Rattle.intake.specs.declared.TaskRead.the-variants as task
 use Rattle.intake.specs.Table.{taskRead, last-two}
-use Rattle.intake.proofs.Two.{first-bad, second-bad, both}
+use Rattle.number.proofs.Two.{first-bad, second-bad, both}
 use borrow.Author.Needs.{needs}
 use Rattle.intake.proofs.read_task.Statement.{statement}
 use Rattle.intake.proofs.read_task.Tie as tie

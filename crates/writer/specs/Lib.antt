@@ -1,0 +1,2 @@
+-- What the code writes, in the words of the rules.
+pub mod Writing

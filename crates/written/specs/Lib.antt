@@ -1,4 +1,0 @@
--- What the code answers, in the words of the rules.
-pub mod Numbers
-pub mod Records
-pub mod Writing
