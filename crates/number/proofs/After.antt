@@ -1,9 +1,9 @@
 -- Readings one behind the other: what follows may be changed for its equal, and grouped.
 use mathlib.Core.Path.{_≡_, refl}
 use mathlib.Core.List.{List}
+use Prim.Native.Nat.{ℕ}
 use Rattle.rules.specs.Answer.{Answer, done, refused, refused-by}
 use Rattle.rules.specs.Numbers.{Read, Reads, after}
-use Prim.Native.Nat.{ℕ}
 
 pub after-same : {A B : Type 0} (a : Answer (Read A)) {f g : A → Reads B} → ((x : A) (s : List ℕ) → f x s ≡ g x s) → after a f ≡ after a g
 after-same (done x) e = e (x .value) (x .rest)

@@ -7,15 +7,15 @@ use Rattle.rules.specs.Written.{times, counted, read-release, read-entry, read-
 use Rattle.number.proofs.After.{after-same, after-after}
 use Rattle.reader.specs.Records.{release-list, lists}
 
--- a count, its limit and its list before what follows
+-- a count, its two refusals and its list before what follows
 counted-first :
-    {A B : Type 0} (limit : ℕ) (rd : Reads A) (h : List A → Reads B) (s : List ℕ) →
-    after (number s) (λ n s. after (counted limit limit n s) (λ m s. after (times m rd s) h)) ≡ after (after (after (number s) (counted limit limit)) (λ n. times n rd)) h
-counted-first limit rd h s =
-    sym (ap (λ a. after a h) (after-after (number s) (counted limit limit) (λ n. times n rd)) ∙ after-after (number s) _ h
-    ∙ after-same (number s) (λ n t. after-after (counted limit limit n t) (λ m. times m rd) h))
+    {A B : Type 0} (limit room : ℕ) (rd : Reads A) (h : List A → Reads B) (s : List ℕ) →
+    after (number s) (λ n s. after (counted limit room n s) (λ m s. after (times m rd s) h)) ≡ after (after (after (number s) (counted limit room)) (λ n. times n rd)) h
+counted-first limit room rd h s =
+    sym (ap (λ a. after a h) (after-after (number s) (counted limit room) (λ n. times n rd)) ∙ after-after (number s) _ h
+    ∙ after-same (number s) (λ n t. after-after (counted limit room n t) (λ m. times m rd) h))
 
-pub record-parts : (s : List ℕ) → read-record 64 15 s ≡ after (number s) lists
+pub record-parts : (j k : ℕ) (s : List ℕ) → read-record j k s ≡ after (number s) (lists j k)
 unfolding read-record
-record-parts s = after-same (number s) λ r t.
-    counted-first 64 read-release _ t ∙ after-same (release-list t) λ xs u. counted-first 15 read-entry (λ es. give (record { r = r; releases = xs; entries = es })) u
+record-parts j k s = after-same (number s) λ r t.
+    counted-first 64 j read-release _ t ∙ after-same (release-list j t) λ xs u. counted-first 15 k read-entry (λ es. give (record { r = r; releases = xs; entries = es })) u

@@ -7,7 +7,7 @@ use Rattle.laws.specs.Lists.{pad}
 use Rattle.rules.specs.Answer.{Answer, done, refused, refused-by}
 use Rattle.rules.specs.Judge as rules
 use Rattle.rules.specs.Numbers.{Read, Reads, _>>=_, give, number}
-use Rattle.rules.specs.Written.{times, counted, read-release, read-entry, Reading, read-into}
+use Rattle.rules.specs.Written.{times, counted, read-release, read-entry, read-record, Reading, read-into}
 use Rattle.round.specs.declared.Place.{Place}
 use Rattle.round.specs.declared.Round.{Round}
 use Rattle.round.specs.Round.{release-as, entry-as, no-release, no-entry, round-as, blank}
@@ -24,21 +24,25 @@ use Rattle.reader.specs.declared.RecordAnswer.the-variants as answer
 use Rattle.reader.specs.declared.RecordRead.{RecordRead}
 use Rattle.number.specs.Numbers.{told}
 
--- A count of a list in a place that has room for the most: "over 64 or of entries over 15 gives 15 as soon as it is met".
-abbrev pub count-in : ℕ → Reads ℕ
-count-in limit = number >>= counted limit limit
+-- A count of a list, with its limit (15) and the places that there are (21).
+abbrev pub count-in : ℕ → ℕ → Reads ℕ
+count-in limit room = number >>= counted limit room
 
-abbrev pub release-list : Reads (List rules.Release)
-release-list = count-in 64 >>= λ n. times n read-release
+-- A list behind its count, into so many places.
+abbrev pub release-list : ℕ → Reads (List rules.Release)
+release-list room = count-in 64 room >>= λ n. times n read-release
 
-abbrev pub entry-list : Reads (List (Option rules.Report))
-entry-list = count-in 15 >>= λ n. times n read-entry
+abbrev pub entry-list : ℕ → Reads (List (Option rules.Report))
+entry-list room = count-in 15 room >>= λ n. times n read-entry
 
 abbrev pub releaseRead : List ℕ → Answer (Read rules.Release) → ReleaseRead
 releaseRead = told (λ x next. release.Value (release-as x) next) release.Refused
 
+abbrev pub place-as : Option rules.Report → Place
+place-as e = record { entry = entry-as e }
+
 abbrev pub entryRead : List ℕ → Answer (Read (Option rules.Report)) → EntryRead
-entryRead = told (λ e next. entry.Value (entry-as e) next) entry.Refused
+entryRead = told (λ e next. entry.Value (place-as e) next) entry.Refused
 
 -- A list in its places, or none beside a refusal.
 abbrev pub some-releases : List rules.Release → ℕ → Releases
@@ -50,9 +54,6 @@ no-releases n = record { list = pad 64 no-release []; count = 0; ended = ended.R
 abbrev pub releasesRead : List ℕ → Answer (Read (List rules.Release)) → Releases
 releasesRead = told some-releases no-releases
 
-abbrev pub place-as : Option rules.Report → Place
-place-as e = record { entry = entry-as e }
-
 abbrev pub some-entries : List (Option rules.Report) → ℕ → Entries
 some-entries es next = record { list = pad 15 no-entry (map place-as es); count = length es; ended = ended.Next next }
 
@@ -62,9 +63,9 @@ no-entries n = record { list = pad 15 no-entry []; count = 0; ended = ended.Refu
 abbrev pub entriesRead : List ℕ → Answer (Read (List (Option rules.Report))) → Entries
 entriesRead = told some-entries no-entries
 
--- Both lists, behind a time that was read.
-abbrev pub lists : ℕ → Reads rules.Round
-lists r = release-list >>= λ xs. entry-list >>= λ es. give (record { r = r; releases = xs; entries = es })
+-- Both lists, into so many places each, behind a time that was read.
+abbrev pub lists : ℕ → ℕ → ℕ → Reads rules.Round
+lists releases entries r = release-list releases >>= λ xs. entry-list entries >>= λ es. give (record { r = r; releases = xs; entries = es })
 
 abbrev pub some-round : rules.Round → ℕ → RoundRead
 some-round q next = record { round = round-as q; ended = ended.Next next }
@@ -75,7 +76,18 @@ no-round n = record { round = blank; ended = ended.Refused n }
 abbrev pub roundRead : List ℕ → Answer (Read rules.Round) → RoundRead
 roundRead = told some-round no-round
 
--- What is told of a reading into 64 and 15 blank places: the answer, "the bytes used, 0 on a refusal", and the record, blank beside a refusal.
+-- What is told of a record: the answer, "the bytes used, 0 on a refusal", and the record, blank beside a refusal.
+abbrev pub some-record : rules.Round → ℕ → RecordRead
+some-record q used = record { answer = answer.Read; used = used; round = round-as q }
+
+abbrev pub no-record : ℕ → RecordRead
+no-record n = record { answer = answer.Refused n; used = 0; round = blank }
+
+-- Of a reading into lists of so many places.
+abbrev pub withinRead : ℕ → ℕ → List ℕ → RecordRead
+withinRead releases entries s = told some-record no-record s (read-record releases entries s)
+
+-- Of a reading into lent lists, whatever they held.
 abbrev pub answerOf : Answer rules.Round → RecordAnswer
 answerOf (done q) = answer.Read
 answerOf (refused n) = answer.Refused n
@@ -89,5 +101,6 @@ roundIn (refused-by n i) = blank
 abbrev pub recordRead : Reading → RecordRead
 recordRead g = record { answer = answerOf (g .answer); used = g .used; round = roundIn (g .answer) }
 
+-- Into lists with room for every record.
 abbrev pub record-from : List ℕ → Reading
 record-from = read-into (replicate 64 (record { task-of = 0; delay = 0 })) (replicate 15 none)

@@ -4,9 +4,7 @@ ghost use Prim.Native.Nat.{_≤_};
 ghost use lib.ListN.{length, drop};
 ghost use Rattle.rules.specs.Written.{times, read-release, read-report, read-entry};
 ghost use Rattle.number.specs.Numbers.{numberRead};
-ghost use Rattle.reader.specs.Records.{releaseRead, entryRead, releasesRead, entriesRead, roundRead, count-in, release-list, entry-list, lists, no-round, recordRead, record-from};
-ghost use Rattle.round.specs.Round.{blank};
-ghost use Rattle.reader.specs.declared.RecordAnswer.the-variants.{Refused};
+ghost use Rattle.reader.specs.Records.{releaseRead, entryRead, releasesRead, entriesRead, roundRead, count-in, release-list, entry-list, lists, no-round, no-record, withinRead, recordRead, record-from};
 use number::NumberRead;
 use round::Entry;
 use round::Place;
@@ -21,7 +19,7 @@ enum ReleaseRead {
 }
 
 enum EntryRead {
-    Value(Entry, usize),
+    Value(Place, usize),
     Refused(u64),
 }
 
@@ -75,15 +73,19 @@ fn read_release(bytes: &[u8], from: usize) -> ReleaseRead
     }
 }
 
-// A count of a list: "over 64 or of entries over 15 gives 15 as soon as it is met".
-fn read_count(bytes: &[u8], from: usize, limit: u64) -> NumberRead
-    ensures { λ r. ⌜ r ≡ numberRead (now (bytes .entry)) (count-in limit (drop from (now (bytes .entry)))) ⌝ }
+// A count of a list: "over 64 or of entries over 15 gives 15 as soon as it is met"; where the lent list "is shorter than a count just read, that is 21
+// there, after that count's 15".
+fn read_count(bytes: &[u8], from: usize, limit: u64, room: usize) -> NumberRead
+    ensures { λ r. ⌜ r ≡ numberRead (now (bytes .entry)) (count-in limit room (drop from (now (bytes .entry)))) ⌝ }
 {
     match number::read_number(bytes, from) {
         NumberRead::Refused(n) => NumberRead::Refused(n),
         NumberRead::Value(count, next) => {
             if limit < count {
                 return NumberRead::Refused(15);
+            }
+            if (room as u64) < count {
+                return NumberRead::Refused(21);
             }
             NumberRead::Value(count, next)
         }
@@ -122,11 +124,11 @@ fn list_releases(bytes: &[u8], from: usize, count: usize) -> Releases
     }
 }
 
-// "A record is: r, count of releases, (task, delay) each, ..": a count and so many releases.
-fn read_releases(bytes: &[u8], from: usize) -> Releases
-    ensures { λ r. ⌜ r ≡ releasesRead (now (bytes .entry)) (release-list (drop from (now (bytes .entry)))) ⌝ }
+// "A record is: r, count of releases, (task, delay) each, ..": a count and so many releases, into so many places.
+fn read_releases(bytes: &[u8], from: usize, room: usize) -> Releases
+    ensures { λ r. ⌜ r ≡ releasesRead (now (bytes .entry)) (release-list room (drop from (now (bytes .entry)))) ⌝ }
 {
-    match read_count(bytes, from, 64) {
+    match read_count(bytes, from, 64, room) {
         NumberRead::Refused(n) => {
             let none = round::no_releases();
             Releases {
@@ -150,14 +152,12 @@ fn read_report(bytes: &[u8], from: usize) -> EntryRead
             NumberRead::Value(completed, third) => match number::read_number(bytes, third) {
                 NumberRead::Refused(n) => EntryRead::Refused(n),
                 NumberRead::Value(run, next) => {
-                    EntryRead::Value(
-                        Entry::Sent(Report {
-                            progress,
-                            completed,
-                            run,
-                        }),
-                        next,
-                    )
+                    let entry = Entry::Sent(Report {
+                        progress,
+                        completed,
+                        run,
+                    });
+                    EntryRead::Value(Place { entry }, next)
                 }
             },
         },
@@ -172,7 +172,8 @@ fn read_entry(bytes: &[u8], from: usize) -> EntryRead
         NumberRead::Refused(n) => EntryRead::Refused(n),
         NumberRead::Value(mark, next) => {
             if mark == 0 {
-                return EntryRead::Value(Entry::Missing, next);
+                let entry = Entry::Missing;
+                return EntryRead::Value(Place { entry }, next);
             }
             if mark == 1 {
                 return read_report(bytes, next);
@@ -200,8 +201,8 @@ fn list_entries(bytes: &[u8], from: usize, count: usize) -> Entries
                     ended: Ended::Refused(n),
                 };
             }
-            EntryRead::Value(e, next) => {
-                list[i] = Place { entry: e };
+            EntryRead::Value(x, next) => {
+                list[i] = x;
                 at = next;
             }
         }
@@ -214,11 +215,11 @@ fn list_entries(bytes: &[u8], from: usize, count: usize) -> Entries
     }
 }
 
-// ".. count of entries, then per entry ..": a count and so many entries.
-fn read_entries(bytes: &[u8], from: usize) -> Entries
-    ensures { λ r. ⌜ r ≡ entriesRead (now (bytes .entry)) (entry-list (drop from (now (bytes .entry)))) ⌝ }
+// ".. count of entries, then per entry ..": a count and so many entries, into so many places.
+fn read_entries(bytes: &[u8], from: usize, room: usize) -> Entries
+    ensures { λ r. ⌜ r ≡ entriesRead (now (bytes .entry)) (entry-list room (drop from (now (bytes .entry)))) ⌝ }
 {
-    match read_count(bytes, from, 15) {
+    match read_count(bytes, from, 15, room) {
         NumberRead::Refused(n) => {
             let none = round::no_entries();
             Entries {
@@ -243,28 +244,28 @@ fn no_lists(n: u64) -> RoundRead
 }
 
 // What follows r: "count of releases, (task, delay) each, count of entries, then per entry ..".
-fn read_lists(bytes: &[u8], time: u64, from: usize) -> RoundRead
-    ensures { λ r. ⌜ r ≡ roundRead (now (bytes .entry)) (lists time (drop from (now (bytes .entry)))) ⌝ }
+fn read_lists(bytes: &[u8], time: u64, from: usize, releases: usize, entries: usize) -> RoundRead
+    ensures { λ r. ⌜ r ≡ roundRead (now (bytes .entry)) (lists releases entries time (drop from (now (bytes .entry)))) ⌝ }
 {
-    let first = read_releases(bytes, from);
+    let first = read_releases(bytes, from, releases);
     let middle = first.ended;
     match middle {
         Ended::Refused(n) => no_lists(n),
         Ended::Next(at) => {
-            let second = read_entries(bytes, at);
+            let second = read_entries(bytes, at, entries);
             let end = second.ended;
             match end {
                 Ended::Refused(n) => no_lists(n),
                 Ended::Next(next) => {
-                    let releases = first.list;
-                    let entries = second.list;
+                    let xs = first.list;
+                    let es = second.list;
                     RoundRead {
                         round: Round {
                             time,
                             listed: first.count,
-                            releases,
+                            releases: xs,
                             entered: second.count,
-                            entries,
+                            entries: es,
                         },
                         ended: Ended::Next(next),
                     }
@@ -275,7 +276,7 @@ fn read_lists(bytes: &[u8], time: u64, from: usize) -> RoundRead
 }
 
 fn no_record(n: u64) -> RecordRead
-    ensures { λ r. ⌜ r ≡ record { answer = Refused n; used = 0; round = blank } ⌝ }
+    ensures { λ r. ⌜ r ≡ no-record n ⌝ }
 {
     let round = Round::blank();
     RecordRead {
@@ -285,24 +286,34 @@ fn no_record(n: u64) -> RecordRead
     }
 }
 
-// Reads the record that stands at a place.
-pub fn read_record(bytes: &[u8], from: usize) -> RecordRead
-    ensures { λ r. ⌜ r ≡ recordRead (record-from (drop from (now (bytes .entry)))) ⌝ }
+// Reads the record that stands at a place into lists of so many places. A room above 64 releases or 15 entries is no more than those: 15 comes first.
+pub fn read_within(bytes: &[u8], from: usize, releases: usize, entries: usize) -> RecordRead
+    ensures { λ r. ⌜ r ≡ withinRead releases entries (drop from (now (bytes .entry))) ⌝ }
 {
     match number::read_number(bytes, from) {
         NumberRead::Refused(n) => no_record(n),
         NumberRead::Value(time, at) => {
-            let read = read_lists(bytes, time, at);
+            let read = read_lists(bytes, time, at, releases, entries);
             let round = read.round;
             let ended = read.ended;
             match ended {
                 Ended::Refused(n) => no_record(n),
-                Ended::Next(next) => RecordRead {
-                    answer: RecordAnswer::Read,
-                    used: next - from,
-                    round,
-                },
+                Ended::Next(next) => {
+                    let used = next - from;
+                    RecordRead {
+                        answer: RecordAnswer::Read,
+                        used,
+                        round,
+                    }
+                }
             }
         }
     }
+}
+
+// Reads the record that stands at a place, with room for every record.
+pub fn read_record(bytes: &[u8], from: usize) -> RecordRead
+    ensures { λ r. ⌜ r ≡ recordRead (record-from (drop from (now (bytes .entry)))) ⌝ }
+{
+    read_within(bytes, from, 64, 15)
 }

@@ -1,41 +1,37 @@
 -- One entry, a lemma for each way out.
 use mathlib.Core.Path.{_≡_, sym, _∙_}
 use mathlib.Core.List.{List}
-use Prim.Native.Nat.{ℕ, _-_}
+use Prim.Native.Nat.{ℕ}
 use lib.ListN.{drop}
 use Rattle.rules.specs.Numbers.{number}
 use borrow.Author.Tests.{eq-eqb, ne-eqb}
 use Rattle.rules.specs.Written.{read-report, read-entry}
-use Rattle.rules.proofs.Reading.{number-takes}
 use Rattle.number.specs.declared.NumberRead.{NumberRead}
 use Rattle.number.specs.declared.NumberRead.the-variants as number
 use Rattle.number.specs.Numbers.{numberRead}
-use Rattle.round.specs.declared.Entry.the-variants as sent
+use Rattle.round.specs.Round.{no-entry}
 use Rattle.reader.specs.declared.EntryRead.{EntryRead}
 use Rattle.reader.specs.declared.EntryRead.the-variants as entry
 use Rattle.reader.specs.Records.{entryRead}
-use Rattle.number.proofs.Told.{Done, told-value, told-stop, told-done}
-use Rattle.number.proofs.Two.{number-tells}
+use Rattle.number.proofs.Told.{told-done}
+use Rattle.number.proofs.Two.{one-bad, one-done}
 use borrow.Author.Needs.{needs}
 use Rattle.reader.proofs.read_entry.Statement.{statement}
 use Rattle.reader.proofs.read_entry.Tie as tie
 
 module _ (s : List ℕ) (from : ℕ) {a : NumberRead} (p : a ≡ numberRead s (number (drop from s))) where
   bad : {n : ℕ} → a ≡ number.Refused n → entry.Refused n ≡ entryRead s (read-entry (drop from s))
-  bad g = rw (told-stop number-tells number-takes s from (sym p ∙ g))
+  bad g = rw (one-bad s from p g)
 
   module _ {mark next : ℕ} (g : a ≡ number.Value mark next) where
-    first : Done s (number (drop from s)) mark next
-    first = told-value number-tells number-takes s from mark next (sym p ∙ g)
-
-    missing : mark ≡ 0 → entry.Value sent.Missing next ≡ entryRead s (read-entry (drop from s))
-    missing z = rw (first .is, eq-eqb mark 0 z) (sym (told-done entry.Value entry.Refused s sent.Missing next (first .on)))
+    missing : mark ≡ 0 → entry.Value no-entry next ≡ entryRead s (read-entry (drop from s))
+    missing z = rw (one-done s from p g .is, eq-eqb mark 0 z) (sym (told-done entry.Value entry.Refused s no-entry next (one-done s from p g .on)))
 
     present : {r : EntryRead} → (mark ≡ 0 → ⊥) → mark ≡ 1 → r ≡ entryRead s (read-report (drop next s)) → r ≡ entryRead s (read-entry (drop from s))
-    present z o q = q ∙ rw (first .is, ne-eqb mark 0 z, eq-eqb mark 1 o)
+    present z o q = q ∙ rw (one-done s from p g .is, ne-eqb mark 0 z, eq-eqb mark 1 o)
 
     above : (mark ≡ 0 → ⊥) → (mark ≡ 1 → ⊥) → entry.Refused 20 ≡ entryRead s (read-entry (drop from s))
-    above z o = rw (first .is, ne-eqb mark 0 z, ne-eqb mark 1 o)
+    above z o = rw (one-done s from p g .is, ne-eqb mark 0 z, ne-eqb mark 1 o)
 
 read-number-requires : tie.Need-read-number-requires
 read-number-requires c κs = search needs

@@ -1,128 +1,15 @@
--- A record, a lemma for each way out.
-use mathlib.Core.Path.{_≡_, sym, _∙_}
-use mathlib.Core.List.{List}
-use Prim.Native.Nat.{ℕ, _-_, _≤_}
-use native.Mathlib.Omega.{arith}
-use lib.ListN.{length, drop, length-drop}
-use Rattle.rules.specs.Answer.{refused}
-use Rattle.rules.specs.Judge as rules
-use Rattle.rules.specs.Numbers.{number}
-use Rattle.rules.specs.Written.{read-record, read-into}
-use Rattle.rules.proofs.Reading.{number-takes}
-use Rattle.rules.proofs.RoundTrips.{record-round-trips}
-use Rattle.round.specs.Round.{round-as, blank}
-use Rattle.number.specs.declared.NumberRead.{NumberRead}
-use Rattle.number.specs.declared.NumberRead.the-variants as number
-use Rattle.reader.specs.declared.Ended.the-variants as ended
-use Rattle.reader.specs.declared.RoundRead.{RoundRead}
-use Rattle.reader.specs.declared.RecordAnswer.the-variants as answer
-use Rattle.reader.specs.declared.RecordRead.{RecordRead}
-use Rattle.number.specs.Numbers.{numberRead}
-use Rattle.reader.specs.Records.{lists, some-round, roundRead, recordRead, record-from}
-use Rattle.number.proofs.Told.{Done, told-value, told-stop}
-use Rattle.number.proofs.Two.{number-tells}
-use Rattle.reader.proofs.Elements.{Held, ended-next, ended-stop, round-end, lists-take}
-use Rattle.reader.proofs.Parts.{record-parts}
+-- A record, with room for every one.
+use mathlib.Core.Path.{_∙_}
 use borrow.Author.Needs.{needs}
+use Rattle.reader.proofs.Rooms.{within-all}
 use Rattle.reader.proofs.read_record.Statement.{statement}
 use Rattle.reader.proofs.read_record.Tie as tie
 
-stopped : (s : List ℕ) {n : ℕ} {r : RecordRead} → read-record 64 15 s ≡ refused n → r ≡ record { answer = answer.Refused n; used = 0; round = blank } → r ≡ recordRead (record-from s)
-unfolding read-into
-stopped s e q = q ∙ rw e
-
-module _ (s : List ℕ) (from : ℕ) {q : rules.Round} {next : ℕ} (d : Done s (read-record 64 15 (drop from s)) q next) where
-  past : from ≤ next
-  past = omega (arith, record-round-trips .alone 64 15 .some-byte (drop from s) (d .is), d .on, length-drop from s, length-drop next s)
-
-  done-so : record { answer = answer.Read; used = next - from; round = round-as q } ≡ recordRead (record-from (drop from s))
-  unfolding read-into
-  done-so =
-      let u : length (drop from s) - length (drop next s) ≡ next - from = omega (arith, past, d .on, length-drop from s, length-drop next s) in
-      rw (d .is, u)
-
-module _ (s : List ℕ) (from : ℕ) {a : NumberRead} (p : a ≡ numberRead s (number (drop from s))) where
-  no-time : {n : ℕ} {r : RecordRead} → a ≡ number.Refused n → r ≡ record { answer = answer.Refused n; used = 0; round = blank } → r ≡ recordRead (record-from (drop from s))
-  no-time g = stopped (drop from s) (record-parts (drop from s) ∙ rw (told-stop number-tells number-takes s from (sym p ∙ g)))
-
-  module _ {time at : ℕ} (g : a ≡ number.Value time at) {x : RoundRead} (o : x ≡ roundRead s (lists time (drop at s))) where
-    parts : read-record 64 15 (drop from s) ≡ lists time (drop at s)
-    parts = record-parts (drop from s) ∙ rw (told-value number-tells number-takes s from time at (sym p ∙ g) .is)
-
-    no-lists : {n : ℕ} {r : RecordRead} → x .ended ≡ ended.Refused n → r ≡ record { answer = answer.Refused n; used = 0; round = blank } → r ≡ recordRead (record-from (drop from s))
-    no-lists h = stopped (drop from s) (parts ∙ ended-stop round-end (lists-take time) s at o h)
-
-    module _ {next : ℕ} (h : x .ended ≡ ended.Next next) where
-      held : Held some-round s (lists time (drop at s)) x next
-      held = ended-next round-end (lists-take time) s at o h
-
-      whole : Done s (read-record 64 15 (drop from s)) (held .what) next
-      whole = record { is = parts ∙ held .was .is; on = held .was .on }
-
-      forward : from ≤ next
-      forward = past s from whole
-
-      all-read : record { answer = answer.Read; used = next - from; round = x .round } ≡ recordRead (record-from (drop from s))
-      all-read = (λ i. record { answer = answer.Read; used = next - from; round = held .holds i .round }) ∙ done-so s from whole
-
-read-number-requires : tie.Need-read-number-requires
-read-number-requires c κs = search needs
-
-enum-known-n : tie.Need-enum-known-n
-enum-known-n c = search needs
-
-no-record-requires : tie.Need-no-record-requires
-no-record-requires c κs = search needs
-
-enum-known-time : tie.Need-enum-known-time
-enum-known-time c = search needs
-
-read-lists-requires : tie.Need-read-lists-requires
-read-lists-requires c κs = search needs
-
-enum-known-ended : tie.Need-enum-known-ended
-enum-known-ended c = search needs
-
-no-record-requires-2 : tie.Need-no-record-requires-2
-no-record-requires-2 c κs = search needs
-
-enum-known-ended-2 : tie.Need-enum-known-ended-2
-enum-known-ended-2 c = search needs
-
-sub-t15 : tie.Need-sub-t15
-sub-t15 c =
-    let a = c .before .before .before .before .before .before .before .before .before .before .args in
-    forward (a .bytes .now) (a .from) (c .before .before .before .before .before .before .before .before .read-number .ensures) (c .before .before .before .before .before .before .time .given .1)
-    (c .before .before .before .before .read-lists .ensures) (c .before .ended2 .given .1)
+read-within-requires : tie.Need-read-within-requires
+read-within-requires c κs = search needs
 
 returns : tie.Need-returns
-returns c =
-    let a = c .before .before .before .before .before .before .args in
-    search (no-time (a .bytes .now) (a .from))
-
-returns-2 : tie.Need-returns-2
-returns-2 c =
-    let a = c .before .before .before .before .before .before .before .before .before .before .before .args in
-    search (no-lists (a .bytes .now) (a .from))
-
-returns-3 : tie.Need-returns-3
-returns-3 c =
-    let a = c .before .before .before .before .before .before .before .before .before .before .args in
-    search (all-read (a .bytes .now) (a .from))
+returns c = c .read-within .ensures ∙ within-all _
 
 pub read-record-spec : {M : Type 1} → statement M
-read-record-spec =
-    tie.close
-    (tie.spec
-    read-number-requires
-    enum-known-n
-    no-record-requires
-    enum-known-time
-    read-lists-requires
-    enum-known-ended
-    no-record-requires-2
-    enum-known-ended-2
-    sub-t15
-    returns
-    returns-2
-    returns-3)
+read-record-spec = tie.close (tie.spec read-within-requires returns)

@@ -1,37 +1,37 @@
 -- One release, a lemma for each way out.
-use mathlib.Core.Path.{_≡_, sym, _∙_}
+use mathlib.Core.Path.{_≡_, sym}
 use mathlib.Core.List.{List}
-use Prim.Native.Nat.{ℕ, _-_}
+use Prim.Native.Nat.{ℕ}
 use lib.ListN.{drop}
-use Rattle.rules.specs.Numbers.{number}
+use Rattle.rules.specs.Judge as rules
+use Rattle.rules.specs.Numbers.{Reads, give, number}
 use Rattle.rules.specs.Written.{read-release}
-use Rattle.rules.proofs.Reading.{number-takes}
 use Rattle.number.specs.declared.NumberRead.{NumberRead}
 use Rattle.number.specs.declared.NumberRead.the-variants as number
 use Rattle.number.specs.Numbers.{numberRead}
 use Rattle.reader.specs.declared.ReleaseRead.the-variants as release
 use Rattle.reader.specs.Records.{releaseRead}
-use Rattle.number.proofs.Told.{Done, told-value, told-stop, told-done}
-use Rattle.number.proofs.Two.{number-tells}
+use Rattle.number.proofs.Told.{told-done}
+use Rattle.number.proofs.Two.{one-done, first-bad, second-bad, both}
 use borrow.Author.Needs.{needs}
 use Rattle.reader.proofs.read_release.Statement.{statement}
 use Rattle.reader.proofs.read_release.Tie as tie
 
+abbrev release-of : ℕ → ℕ → Reads rules.Release
+release-of i d = give (record { task-of = i; delay = d })
+
 module _ (s : List ℕ) (from : ℕ) {a : NumberRead} (p : a ≡ numberRead s (number (drop from s))) where
-  first-bad : {n : ℕ} → a ≡ number.Refused n → release.Refused n ≡ releaseRead s (read-release (drop from s))
-  first-bad g = rw (told-stop number-tells number-takes s from (sym p ∙ g))
+  no-task : {n : ℕ} → a ≡ number.Refused n → release.Refused n ≡ releaseRead s (read-release (drop from s))
+  no-task g = rw (first-bad release-of s from p g)
 
   module _ {task middle : ℕ} (g : a ≡ number.Value task middle) {b : NumberRead} (q : b ≡ numberRead s (number (drop middle s))) where
-    first : Done s (number (drop from s)) task middle
-    first = told-value number-tells number-takes s from task middle (sym p ∙ g)
+    no-delay : {n : ℕ} → b ≡ number.Refused n → release.Refused n ≡ releaseRead s (read-release (drop from s))
+    no-delay h = rw (second-bad release-of s from p g q h)
 
-    second-bad : {n : ℕ} → b ≡ number.Refused n → release.Refused n ≡ releaseRead s (read-release (drop from s))
-    second-bad h = rw (first .is, told-stop number-tells number-takes s middle (sym q ∙ h))
-
-    both : {delay next : ℕ} → b ≡ number.Value delay next → release.Value (record { task = task; delay = delay }) next ≡ releaseRead s (read-release (drop from s))
-    both {delay} {next} h =
-        let d = told-value number-tells number-takes s middle delay next (sym q ∙ h) in
-        rw (first .is, d .is) (sym (told-done release.Value release.Refused s (record { task = task; delay = delay }) next (d .on)))
+    all : {delay next : ℕ} → b ≡ number.Value delay next → release.Value (record { task = task; delay = delay }) next ≡ releaseRead s (read-release (drop from s))
+    all {delay} {next} h =
+        rw (both release-of s from p g q h)
+        (sym (told-done release.Value release.Refused s (record { task = task; delay = delay }) next (one-done s middle q h .on)))
 
 read-number-requires : tie.Need-read-number-requires
 read-number-requires c κs = search needs
@@ -52,17 +52,19 @@ enum-known-delay : tie.Need-enum-known-delay
 enum-known-delay c = search needs
 
 returns : tie.Need-returns
-returns c = search (first-bad (c .before .before .before .before .before .args .bytes .now) (c .before .before .before .before .before .args .from))
+returns c =
+    let a = c .before .before .before .before .before .args in
+    search (no-task (a .bytes .now) (a .from))
 
 returns-2 : tie.Need-returns-2
 returns-2 c =
     let a = c .before .before .before .before .before .before .before .before .before .args in
-    search (second-bad (a .bytes .now) (a .from))
+    search (no-delay (a .bytes .now) (a .from))
 
 returns-3 : tie.Need-returns-3
 returns-3 c =
     let a = c .before .before .before .before .before .before .before .before .before .args in
-    search (both (a .bytes .now) (a .from))
+    search (all (a .bytes .now) (a .from))
 
 pub read-release-spec : {M : Type 1} → statement M
 read-release-spec =

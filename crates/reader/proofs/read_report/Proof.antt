@@ -1,46 +1,43 @@
 -- A report, a lemma for each way out.
-use mathlib.Core.Path.{_≡_, sym, _∙_}
+use mathlib.Core.Path.{_≡_, sym}
+use mathlib.Core.Option.{Option, some}
 use mathlib.Core.List.{List}
-use Prim.Native.Nat.{ℕ, _-_}
+use Prim.Native.Nat.{ℕ}
 use lib.ListN.{drop}
-use Rattle.rules.specs.Numbers.{number}
+use Rattle.rules.specs.Judge as rules
+use Rattle.rules.specs.Numbers.{Reads, _>>=_, give, number}
 use Rattle.rules.specs.Written.{read-report}
-use Rattle.rules.proofs.Reading.{number-takes}
 use Rattle.number.specs.declared.NumberRead.{NumberRead}
 use Rattle.number.specs.declared.NumberRead.the-variants as number
 use Rattle.number.specs.Numbers.{numberRead}
-use Rattle.round.specs.declared.Entry.the-variants as sent
 use Rattle.reader.specs.declared.EntryRead.the-variants as entry
-use Rattle.reader.specs.Records.{entryRead}
-use Rattle.number.proofs.Told.{Done, told-value, told-stop, told-done}
-use Rattle.number.proofs.Two.{number-tells}
+use Rattle.reader.specs.Records.{place-as, entryRead}
+use Rattle.number.proofs.Told.{told-done}
+use Rattle.number.proofs.Two.{one-bad, one-done, first-bad, second-bad, both}
 use borrow.Author.Needs.{needs}
 use Rattle.reader.proofs.read_report.Statement.{statement}
 use Rattle.reader.proofs.read_report.Tie as tie
 
+abbrev third-of : ℕ → ℕ → Reads (Option rules.Report)
+third-of p t = number >>= λ u. give (some (record { progress = p; completed = t; run = u }))
+
 module _ (s : List ℕ) (from : ℕ) {a : NumberRead} (p : a ≡ numberRead s (number (drop from s))) where
-  first-bad : {n : ℕ} → a ≡ number.Refused n → entry.Refused n ≡ entryRead s (read-report (drop from s))
-  first-bad g = rw (told-stop number-tells number-takes s from (sym p ∙ g))
+  no-progress : {n : ℕ} → a ≡ number.Refused n → entry.Refused n ≡ entryRead s (read-report (drop from s))
+  no-progress g = rw (first-bad third-of s from p g)
 
   module _ {progress second : ℕ} (g : a ≡ number.Value progress second) {b : NumberRead} (q : b ≡ numberRead s (number (drop second s))) where
-    first : Done s (number (drop from s)) progress second
-    first = told-value number-tells number-takes s from progress second (sym p ∙ g)
-
-    second-bad : {n : ℕ} → b ≡ number.Refused n → entry.Refused n ≡ entryRead s (read-report (drop from s))
-    second-bad h = rw (first .is, told-stop number-tells number-takes s second (sym q ∙ h))
+    no-completed : {n : ℕ} → b ≡ number.Refused n → entry.Refused n ≡ entryRead s (read-report (drop from s))
+    no-completed h = rw (second-bad third-of s from p g q h)
 
     module _ {completed third : ℕ} (h : b ≡ number.Value completed third) {d : NumberRead} (o : d ≡ numberRead s (number (drop third s))) where
-      next-two : Done s (number (drop second s)) completed third
-      next-two = told-value number-tells number-takes s second completed third (sym q ∙ h)
-
-      third-bad : {n : ℕ} → d ≡ number.Refused n → entry.Refused n ≡ entryRead s (read-report (drop from s))
-      third-bad k = rw (first .is, next-two .is, told-stop number-tells number-takes s third (sym o ∙ k))
+      no-run : {n : ℕ} → d ≡ number.Refused n → entry.Refused n ≡ entryRead s (read-report (drop from s))
+      no-run k = rw (both third-of s from p g q h, one-bad s third o k)
 
       all : {run next : ℕ} → d ≡ number.Value run next
-          → entry.Value (sent.Sent (record { progress = progress; completed = completed; run = run })) next ≡ entryRead s (read-report (drop from s))
+          → entry.Value (place-as (some (record { progress = progress; completed = completed; run = run }))) next ≡ entryRead s (read-report (drop from s))
       all {run} {next} k =
-          let l = told-value number-tells number-takes s third run next (sym o ∙ k) in
-          rw (first .is, next-two .is, l .is) (sym (told-done entry.Value entry.Refused s (sent.Sent (record { progress = progress; completed = completed; run = run })) next (l .on)))
+          rw (both third-of s from p g q h, one-done s third o k .is)
+          (sym (told-done (λ e next. entry.Value (place-as e) next) entry.Refused s (some (record { progress = progress; completed = completed; run = run })) next (one-done s third o k .on)))
 
 read-number-requires : tie.Need-read-number-requires
 read-number-requires c κs = search needs
@@ -72,17 +69,17 @@ enum-known-run c = search needs
 returns : tie.Need-returns
 returns c =
     let a = c .before .before .before .before .before .args in
-    search (first-bad (a .bytes .now) (a .from))
+    search (no-progress (a .bytes .now) (a .from))
 
 returns-2 : tie.Need-returns-2
 returns-2 c =
     let a = c .before .before .before .before .before .before .before .before .before .args in
-    search (second-bad (a .bytes .now) (a .from))
+    search (no-completed (a .bytes .now) (a .from))
 
 returns-3 : tie.Need-returns-3
 returns-3 c =
     let a = c .before .before .before .before .before .before .before .before .before .before .before .before .before .args in
-    search (third-bad (a .bytes .now) (a .from))
+    search (no-run (a .bytes .now) (a .from))
 
 returns-4 : tie.Need-returns-4
 returns-4 c =
