@@ -1,0 +1,4 @@
+-- What follows of lists as words.
+pub mod Places
+pub mod Cases
+pub mod Settled

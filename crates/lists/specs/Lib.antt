@@ -1,0 +1,2 @@
+-- A round record's lists as words, in the words of the rules.
+pub mod Lists
