@@ -1,14 +1,14 @@
--- Small lists, by computation: what is read of them, and which refusal comes first.
+-- Small lists, by computation: what is read of them, which refusal comes first, and what is put.
 use mathlib.Core.Path.{_≡_, refl, ap}
 use mathlib.Core.Option.{none, some}
 use mathlib.Core.List.{[], _∷_}
 use lib.ListN.{replicate}
 use Rattle.laws.specs.Search.{lowest}
-use Rattle.laws.specs.Lists.{rows}
+use Rattle.laws.specs.Lists.{rows, over}
 use Rattle.rules.specs.Answer.{done, refused}
 use Rattle.round.specs.Round.{blank}
 use Rattle.lists.specs.declared.RoundIn.{RoundIn}
-use Rattle.lists.specs.Lists.{releases-at, wrong-mark, entries-at, round-at, roundIn}
+use Rattle.lists.specs.Lists.{releases-at, wrong-mark, entries-at, round-at, roundIn, release-words, entry-words}
 
 pub two-releases : releases-at (7 ∷ 0 ∷ 2 ∷ 1 ∷ []) ≡ done (record { task-of = 7; delay = 0 } ∷ record { task-of = 2; delay = 1 } ∷ [])
 unfolding releases-at rows
@@ -41,3 +41,10 @@ releases-first e = e
 pub sixty-five : {r : RoundIn} → r ≡ roundIn (round-at 5 (replicate 130 0) (replicate 64 0)) → (r .refusal ≡ 0) × ((r .round .listed ≡ 65) × (r .round .entered ≡ 16))
 unfolding round-at releases-at entries-at wrong-mark lowest rows
 sixty-five e = (ap (λ (x : RoundIn). x .refusal) e, (ap (λ (x : RoundIn). x .round .listed) e, ap (λ (x : RoundIn). x .round .entered) e))
+
+-- "places past the count stay as they were"
+pub put-one : over (release-words (record { task-of = 7; delay = 1 } ∷ [])) (4 ∷ 4 ∷ 4 ∷ 4 ∷ []) ≡ 7 ∷ 1 ∷ 4 ∷ 4 ∷ []
+put-one = refl
+
+pub put-missing : over (entry-words (some (record { progress = 3; completed = 45; run = 0 }) ∷ none ∷ [])) (replicate 10 9) ≡ 1 ∷ 3 ∷ 45 ∷ 0 ∷ 0 ∷ 0 ∷ 0 ∷ 0 ∷ 9 ∷ 9 ∷ []
+put-missing = refl

@@ -1,7 +1,7 @@
 -- A round record whose lists are words in the caller's memory: two for each release, four for each entry.
 use mathlib.Core.Bool.{Bool, not}
 use mathlib.Core.Option.{Option, none, some}
-use mathlib.Core.List.{List, map}
+use mathlib.Core.List.{List, [], _∷_, _++_, map, foldr}
 use Prim.Native.Nat.{ℕ, _+_, _*_, _/_, _%_}
 use lib.ListN.{length, take, getD}
 use Rattle.laws.specs.Tests.{_<?_, _=?_, if_then_else_, found}
@@ -31,8 +31,11 @@ abbrev pub entry-at : List ℕ → ℕ → Option rules.Report
 entry-at ws i = entry-of (getD ws (4 * i) 0) (getD ws (4 * i + 1) 0) (getD ws (4 * i + 2) 0) (getD ws (4 * i + 3) 0)
 
 -- 103: some entry's mark is above 1.
+abbrev pub above-one : List ℕ → ℕ → Bool
+above-one ws i = 1 <? getD ws (4 * i) 0
+
 unfoldable pub wrong-mark : List ℕ → Bool
-wrong-mark ws = found (lowest (λ i. 1 <? getD ws (4 * i) 0) (length ws / 4))
+wrong-mark ws = found (lowest (above-one ws) (length ws / 4))
 
 -- 100 comes before 103: an array is looked at for its length and then for what it holds.
 unfoldable pub entries-at : List ℕ → Answer (List (Option rules.Report))
@@ -55,7 +58,7 @@ place-as e = record { entry = entry-as e }
 abbrev pub entry-places : List (Option rules.Report) → List Place
 entry-places es = pad 15 no-entry (map place-as (take 15 es))
 
--- A record by value that says by its counts that the lists are longer than the places: it is refused 15 like the record itself.
+-- A record by value. Its counts are the record's own: where a list is longer than the places they say so, and it is refused 15 like the record.
 abbrev pub round-cut : rules.Round → Round
 round-cut q = record {
   time = q .r;
@@ -73,3 +76,21 @@ abbrev pub roundIn : Answer rules.Round → RoundIn
 roundIn (done q) = record { refusal = 0; round = round-cut q }
 roundIn (refused n) = no-round n
 roundIn (refused-by n i) = no-round n
+
+-- The way back: the words of each element, one behind the other.
+abbrev pub joined : {A : Type 0} → (A → List ℕ) → List A → List ℕ
+joined f = foldr (λ x ws. f x ++ ws) []
+
+abbrev pub words-of-release : rules.Release → List ℕ
+words-of-release x = x .task-of ∷ x .delay ∷ []
+
+abbrev pub release-words : List rules.Release → List ℕ
+release-words = joined words-of-release
+
+-- "A missing entry carries no numbers": its words are zeros.
+abbrev pub words-of-entry : Option rules.Report → List ℕ
+words-of-entry none = 0 ∷ 0 ∷ 0 ∷ 0 ∷ []
+words-of-entry (some e) = 1 ∷ e .progress ∷ e .completed ∷ e .run ∷ []
+
+abbrev pub entry-words : List (Option rules.Report) → List ℕ
+entry-words = joined words-of-entry

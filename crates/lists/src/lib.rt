@@ -1,11 +1,13 @@
 // A round record's lists as words in the caller's memory: two for each release (task, delay), four for each entry (0 where it is missing or 1, progress,
 // completion time, run).
 ghost use mathlib.Core.Path.{_≡_};
-ghost use Prim.Native.Nat.{_+_, _*_, _/_, _<_, min};
+ghost use mathlib.Core.List.{[], _∷_};
+ghost use Prim.Native.Nat.{_+_, _*_, _/_, _≤_, _<_, min};
 ghost use lib.ListN.{length};
-ghost use Rattle.laws.specs.Lists.{rows};
-ghost use Rattle.round.specs.Round.{entry-as};
-ghost use Rattle.lists.specs.Lists.{release-at, entry-at, wrong-mark, round-at, release-places, entry-places, no-round, roundIn};
+ghost use lib.Seq.{sets};
+ghost use Rattle.laws.specs.Lists.{rows, over};
+ghost use Rattle.round.specs.Round.{entryOf, entry-as, releasesOf, entriesOf};
+ghost use Rattle.lists.specs.Lists.{release-at, entry-at, wrong-mark, round-at, release-places, entry-places, no-round, roundIn, release-words, words-of-entry, entry-words};
 use round::Entry;
 use round::Place;
 use round::Release;
@@ -119,5 +121,54 @@ pub fn round_in(time: u64, releases: &[u64], entries: &[u64]) -> RoundIn
             entered: entries.len() / 4,
             entries: entered,
         },
+    }
+}
+
+// A record's releases into the first words of a lent list: "places past the count stay as they were".
+pub fn put_releases(words: &mut [u64], q: Round)
+    requires { ⌜ (q .listed ≤ 64) × (2 * q .listed ≤ length (now words)) ⌝ }
+    ensures { λ _. ⌜ now (words .exit) ≡ over (release-words (releasesOf q)) (now (words .entry)) ⌝ }
+{
+    let mut i = 0;
+    while i < q.listed {
+        let x = q.releases[i];
+        words[2 * i] = x.task;
+        words[2 * i + 1] = x.delay;
+        i += 1;
+    }
+}
+
+fn put_four(words: &mut [u64], at: usize, mark: u64, progress: u64, completed: u64, run: u64)
+    requires { ⌜ at + 4 ≤ length (now words) ⌝ }
+    ensures { λ _. ⌜ now (words .exit) ≡ sets (now (words .entry)) at (mark ∷ progress ∷ completed ∷ run ∷ []) ⌝ }
+{
+    words[at] = mark;
+    words[at + 1] = progress;
+    words[at + 2] = completed;
+    words[at + 3] = run;
+}
+
+// "A missing entry carries no numbers": its words are zeros.
+fn put_entry(words: &mut [u64], at: usize, e: Entry)
+    requires { ⌜ at + 4 ≤ length (now words) ⌝ }
+    ensures { λ _. ⌜ now (words .exit) ≡ sets (now (words .entry)) at (words-of-entry (entryOf e)) ⌝ }
+{
+    match e {
+        Entry::Missing => put_four(words, at, 0, 0, 0, 0),
+        Entry::Sent(x) => put_four(words, at, 1, x.progress, x.completed, x.run),
+    }
+}
+
+// A record's entries into the first words of a lent list.
+pub fn put_entries(words: &mut [u64], q: Round)
+    requires { ⌜ (q .entered ≤ 15) × (4 * q .entered ≤ length (now words)) ⌝ }
+    ensures { λ _. ⌜ now (words .exit) ≡ over (entry-words (entriesOf q)) (now (words .entry)) ⌝ }
+{
+    let mut i = 0;
+    while i < q.entered {
+        let place = q.entries[i];
+        let e = place.entry;
+        put_entry(words, 4 * i, e);
+        i += 1;
     }
 }

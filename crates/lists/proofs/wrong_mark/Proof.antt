@@ -1,6 +1,6 @@
 -- No mark above 1 among the entries so far.
 use mathlib.Core.Path.{_≡_, refl}
-use mathlib.Core.Bool.{Bool, true, false}
+use mathlib.Core.Bool.{true, false}
 use mathlib.Core.Option.{none, some}
 use mathlib.Core.List.{List}
 use Prim.Native.Nat.{ℕ, _+_, _-_, _*_, _/_, _≤_, _<_}
@@ -8,15 +8,11 @@ use native.Mathlib.Omega.{arith}
 use borrow.Author.Needs.{needs}
 use borrow.Author.Tests.{lt-ltb, le-ltb}
 use lib.ListN.{length, getD}
-use Rattle.laws.specs.Tests.{_<?_}
 use Rattle.laws.specs.Search.{lowest}
 use Rattle.laws.proofs.Search.{lowest-none, lowest-more, lowest-found}
-use Rattle.lists.specs.Lists.{wrong-mark}
+use Rattle.lists.specs.Lists.{above-one, wrong-mark}
 use Rattle.lists.proofs.wrong_mark.Statement.{statement}
 use Rattle.lists.proofs.wrong_mark.Tie as tie
-
-abbrev above-one : List ℕ → ℕ → Bool
-above-one ws i = 1 <? getD ws (4 * i) 0
 
 record Inv (ws : List ℕ) (count i : ℕ) : Type 0 where
   many : count ≡ length ws / 4
