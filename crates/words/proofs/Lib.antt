@@ -1,2 +1,5 @@
--- The laws that the proofs of the functions share.
+-- The laws that the proofs of the functions share, and what follows from the contracts.
 pub mod Copies
+pub mod Table
+pub mod Settled
+pub mod Cases

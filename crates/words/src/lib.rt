@@ -1,2 +1,4 @@
-// States as arrays of 64-bit words in the caller's memory: stretches of words copied in and out, and the words of a task table.
-pub mod block;
+// States as arrays of 64-bit words in the caller's memory.
+
+pub mod block; // block.rt: stretches of words, copied out and in
+pub mod tables; // tables.rt: the words of a task table, read and written
