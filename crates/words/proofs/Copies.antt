@@ -7,7 +7,7 @@ use native.Mathlib.Numerals.{add-one}
 use lib.ListN.{length, take, drop, set, getD, length-set, length-drop, drop-of-length-le}
 use lib.Seq.{sets, getD-drop, take-suc, length-take-le}
 use Rattle.laws.specs.Lists.{pad}
-use Rattle.laws.proofs.Lists.{drop-here, pad-snoc, length-pad}
+use Rattle.laws.proofs.Lists.{drop-here, pad-snoc}
 
 -- the first i of the n numbers from a place on, in an array of n places
 pub record Taken (n : ℕ) (words : List ℕ) (from : ℕ) (out : List ℕ) (i : ℕ) : Type 0 where
@@ -24,12 +24,6 @@ module _ {n : ℕ} {words : List ℕ} {from : ℕ} {out : List ℕ} {i : ℕ} (v
 
   count : length (take i (drop from words)) ≡ i
   count = length-take-le i (drop from words) (omega (arith, v .to, inside))
-
-  pub taken-long : length out ≡ n
-  taken-long = ap length (v .so-far) ∙ length-pad n 0 (take i (drop from words)) (omega (arith, count, v .to))
-
-  pub taken-at : i < n → from + i < length words
-  taken-at h = omega (arith, v .room)
 
   pub taken-next : i < n → Taken n words from (set out i (getD words (from + i) 0)) (i + 1)
   taken-next h =
@@ -64,9 +58,6 @@ put-start {n} {words} {from} {block} h e =
     record { room = h; whole = e; to = omega arith; long = refl; to-do = rw z }
 
 module _ {n : ℕ} {words₀ : List ℕ} {from : ℕ} {block words : List ℕ} {i : ℕ} (v : Putting n words₀ from block words i) where
-  pub put-at : i < n → from + i < length words
-  put-at h = omega (arith, v .room, v .long)
-
   pub put-next : i < n → {x : ℕ} → x ≡ getD block i 0 → Putting n words₀ from block (set words (from + i) x) (i + 1)
   put-next h {x} e =
       let s : suc (from + i) ≡ from + (i + 1) = omega arith in

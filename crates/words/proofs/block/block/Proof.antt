@@ -1,7 +1,7 @@
 -- 64 words copied out, one a turn.
 use Prim.Native.Nat.{_-_}
 use borrow.Author.Needs.{needs}
-use Rattle.words.proofs.Copies.{Taken, taken-start, taken-at, taken-next, taken-end}
+use Rattle.words.proofs.Copies.{Taken, taken-start, taken-next, taken-end}
 use Rattle.words.proofs.block.block.Statement.{statement}
 use Rattle.words.proofs.block.block.Tie as tie
 
@@ -24,7 +24,7 @@ mul-out : tie.Need-mul-out Inv-loop μ-loop
 mul-out c = search needs
 
 shared-slice-read-out : tie.Need-shared-slice-read-out Inv-loop μ-loop
-shared-slice-read-out c = search taken-at
+shared-slice-read-out c = search needs
 
 mul-out-2 : tie.Need-mul-out-2 Inv-loop μ-loop
 mul-out-2 c = search needs

@@ -1,7 +1,7 @@
 -- 64 words copied in, one a turn.
 use Prim.Native.Nat.{_-_}
 use borrow.Author.Needs.{needs}
-use Rattle.words.proofs.Copies.{Putting, put-start, put-at, put-next, put-end}
+use Rattle.words.proofs.Copies.{Putting, put-start, put-next, put-end}
 use Rattle.words.proofs.block.put_block.Statement.{statement}
 use Rattle.words.proofs.block.put_block.Tie as tie
 
@@ -27,7 +27,7 @@ mul-words-2 : tie.Need-mul-words-2 Inv-loop μ-loop
 mul-words-2 c = search needs
 
 slice-write-words : tie.Need-slice-write-words Inv-loop μ-loop
-slice-write-words c = search put-at
+slice-write-words c = search needs
 
 add-i : tie.Need-add-i Inv-loop μ-loop
 add-i c = search needs

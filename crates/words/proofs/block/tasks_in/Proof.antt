@@ -6,7 +6,7 @@ use mir.Syntax.{w8}
 use mir.Val.{Fits}
 use borrow.Author.Needs.{needs}
 use Rattle.words.specs.Words.{Bytes-in}
-use Rattle.words.proofs.Copies.{Taken, taken-start, taken-at, taken-next, taken-end}
+use Rattle.words.proofs.Copies.{Taken, taken-start, taken-next, taken-end}
 use Rattle.words.proofs.block.tasks_in.Statement.{statement}
 use Rattle.words.proofs.block.tasks_in.Tie as tie
 
@@ -32,7 +32,7 @@ mul-out : tie.Need-mul-out Inv-loop μ-loop
 mul-out c = search needs
 
 shared-slice-read-out : tie.Need-shared-slice-read-out Inv-loop μ-loop
-shared-slice-read-out c = search taken-at
+shared-slice-read-out c = search needs
 
 cast-out : tie.Need-cast-out Inv-loop μ-loop
 cast-out c = search byte-fits
