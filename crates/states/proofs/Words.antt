@@ -1,0 +1,43 @@
+-- Laws of marks as words, and of the first words of a list.
+use mathlib.Core.Path.{_≡_, refl, ap}
+use mathlib.Core.Bool.{Bool, true, false, _||_, false≢true, true≢false}
+use mathlib.Core.List.{List, [], _∷_, _++_}
+use Prim.Native.Nat.{ℕ, zero, suc, _≤_}
+use native.Mathlib.Omega.{arith}
+use lib.ListN.{length, drop, getD}
+use Rattle.laws.specs.Tests.{_=?_}
+use Rattle.laws.specs.Lists.{rows}
+use Rattle.laws.proofs.Tests.{eqb-cases}
+use Rattle.states.specs.Common.{mark}
+
+pub mark-back : (b : Bool) → (mark b =? 1) ≡ b
+mark-back true = refl
+mark-back false = refl
+
+pub mark-small : (b : Bool) → mark b ≤ 1
+mark-small true = omega arith
+mark-small false = omega arith
+
+-- a word of 0 or 1 is its mark
+pub word-back : (w : ℕ) → w ≤ 1 → mark (w =? 1) ≡ w
+word-back w h = eqb-cases (λ b. mark b ≡ w) w 1 (λ e. omega arith) (λ d. by w h d)
+  where
+    by : (w : ℕ) → w ≤ 1 → (w ≡ 1 → ⊥) → 0 ≡ w
+    by zero h d = refl
+    by (suc zero) h d = absurd (d refl)
+    by (suc (suc w)) h d = absurd (omega arith)
+
+pub or-second : (a b : Bool) → (a || b) ≡ true → a ≡ false → b ≡ true
+or-second true b h e = absurd (true≢false e)
+or-second false b h e = h
+
+pub or-first : (a b : Bool) → (a ≡ false → b ≡ true) → (a || b) ≡ true
+or-first true b f = refl
+or-first false b f = f refl
+
+-- a list from its first n elements on
+pub front : (n : ℕ) (l : List ℕ) → n ≤ length l → rows (λ k. getD l k 0) n ++ drop n l ≡ l
+unfolding rows
+front zero l h = refl
+front (suc n) [] h = absurd (omega arith)
+front (suc n) (x ∷ l) h = ap (λ (m : List ℕ). x ∷ m) (front n l (omega arith))
