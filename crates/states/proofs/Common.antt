@@ -1,19 +1,19 @@
 -- The words of a common record are a written form of it: what is taken was given back, its words are those that came in, and no record that was given
 -- back is refused.
-use mathlib.Core.Path.{_≡_, refl, sym, ap, ap₂, subst, _∙_}
-use mathlib.Core.Bool.{Bool, true, false, not, _||_}
-use mathlib.Core.List.{List, [], _∷_, _++_}
+use mathlib.Core.Path.{_≡_, refl, sym, ap, subst, _∙_}
+use mathlib.Core.Bool.{Bool, true, false, not}
+use mathlib.Core.List.{List, [], _∷_}
 use mathlib.Core.Logic.{⊎-elim}
 use Prim.Native.Nat.{ℕ, _+_, _-_, _^_, _≤_, _<_}
 use native.Mathlib.Omega.{arith}
 use borrow.Author.Tests.{ltb-true, leb-true, eqb-true, not-false, lt-ltb, le-leb, eq-eqb}
 use lib.ListN.{length, take, drop, getD, replicate, getD-replicate, length-append, length-take, length-drop, take-append-drop}
 use lib.Seq.{getD-drop, take-all, take-at, drop-at, drop-drop, length-take-le, getD-take}
-use Rattle.laws.specs.Tests.{_<?_, _≤?_, _=?_, all-of}
+use Rattle.laws.specs.Tests.{_=?_, all-of}
 use Rattle.laws.specs.Lists.{rows}
 use Rattle.laws.specs.Sums.{total}
 use Rattle.laws.proofs.Tests.{each-of, lt-or-ge}
-use Rattle.rules.specs.Answer.{Answer, done}
+use Rattle.rules.specs.Answer.{done, refuse_if_else_}
 use Rattle.rules.proofs.Answers.{passed, same-done}
 use Rattle.table.specs.Table.{Checked}
 use Rattle.table.specs.declared.Table.{Table}
@@ -21,7 +21,8 @@ use Rattle.table.proofs.Facts.{ranges}
 use Rattle.common.specs.declared.Common.{Common}
 use Rattle.common.specs.Common.{Given}
 use Rattle.words.specs.Words.{Bytes-in}
-use Rattle.states.specs.Common.{mark, common-words, common-in, all-below, small-common, in-place, known-tasks, known-common, common-at}
+use Rattle.states.specs.declared.commons.CommonIn.{CommonIn}
+use Rattle.states.specs.Common.{mark, common-words, common-in, all-below, small-common, in-place, known-tasks, known-common, common-at, commonIn}
 use Rattle.states.proofs.Below.{each-below, are-below, zeros, zeros-below}
 use Rattle.states.proofs.Words.{mark-back, mark-small, word-back, or-second, or-first, front}
 use Rattle.states.proofs.Sizes.{Sizes, sizes-given, given-sizes}
@@ -32,12 +33,31 @@ pub record Taken (t : Table) (ws : List ℕ) (c : Common) : Type 0 where
   pub known : known-common t ws ≡ true
   pub is : common-in ws ≡ c
 
-taken : {t : Table} {ws : List ℕ} {c : Common} → common-at t ws ≡ done c → Taken t ws c
+pub taken : {t : Table} {ws : List ℕ} {c : Common} → common-at t ws ≡ done c → Taken t ws c
 unfolding common-at
 taken h =
     let a = passed 100 _ h in
     let b = passed 102 _ (a .1) in
     record { long = eqb-true _ 326 (not-false _ (a .0)); known = not-false _ (b .0); is = same-done (b .1) }
+
+-- what a refusal of 0 says, and another
+pub done-where-zero : (t : Table) (ws : List ℕ) {x : CommonIn} → x ≡ commonIn (common-at t ws) → x .refusal ≡ 0 → common-at t ws ≡ done (x .common)
+unfolding common-at
+done-where-zero t ws {x} p z = by (not (length ws =? 326)) (not (known-common t ws)) p
+  where
+    by : (a b : Bool) → x ≡ commonIn (refuse 100 if a else refuse 102 if b else done (common-in ws))
+        → (refuse 100 if a else refuse 102 if b else done (common-in ws)) ≡ done (x .common)
+    by true b e = absurd (omega (arith, z, ap (λ (x : CommonIn). x .refusal) e))
+    by false true e = absurd (omega (arith, z, ap (λ (x : CommonIn). x .refusal) e))
+    by false false e = ap (λ (x : CommonIn). done (x .common)) (sym e)
+
+pub unknown-else : (t : Table) (ws : List ℕ) → length ws ≡ 326 → {x : CommonIn} → x ≡ commonIn (common-at t ws) → (x .refusal ≡ 0 → ⊥) → known-common t ws ≡ false
+unfolding common-at
+unknown-else t ws l {x} p z = by (known-common t ws) (p ∙ rw (eq-eqb (length ws) 326 l))
+  where
+    by : (b : Bool) → x ≡ commonIn (refuse 102 if not b else done (common-in ws)) → b ≡ false
+    by true e = absurd (z (ap (λ (x : CommonIn). x .refusal) e))
+    by false e = refl
 
 pub record Small (begun last start count : ℕ) : Type 0 where
   pub one : begun ≤ 1
@@ -149,11 +169,11 @@ taken-words t ws h =
     ap common-words (sym (k .is)) ∙ words-same ws (k .long) t (k .known)
 
 module _ {t : Table} {c : Common} (s : Sizes t c) where
-  words-long : length (common-words c) ≡ 326
+  pub words-long : length (common-words c) ≡ 326
   unfolding common-words
   words-long = simp length-append (omega (arith, s .places, s .earliest-places))
 
-  same-back : common-in (common-words c) ≡ c
+  pub same-back : common-in (common-words c) ≡ c
   unfolding common-words common-in
   same-back = λ i. record {
     tasks = (ap (take 256) (drop-at (c .earliest) (c .tasks) 64 (s .earliest-places)) ∙ take-all 256 (c .tasks) (omega (arith, s .places))) i;

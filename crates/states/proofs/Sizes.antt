@@ -1,25 +1,24 @@
 -- What `Given` says of a common record by value, in its own numbers.
 use mathlib.Core.Path.{_≡_, refl, sym, ap, _∙_}
-use mathlib.Core.Bool.{Bool, true, false, true≢false}
+use mathlib.Core.Bool.{Bool, true, false}
 use mathlib.Core.Option.{Option, none, some}
 use mathlib.Core.List.{List, [], _∷_, _++_, map}
 use Prim.Native.Nat.{ℕ, _+_, _-_, _^_, _≤_, _<_}
 use native.Mathlib.Omega.{arith}
-use lib.ListN.{length, take, drop, getD, replicate, length-map, length-append, take-append-drop, List·getD-map, List·getD-eq-default}
+use lib.ListN.{length, take, drop, getD, replicate, length-map, take-append-drop, List·getD-map, List·getD-eq-default}
 use lib.Seq.{length-take-le, getD-take, drop-at}
 use Rattle.laws.specs.Tests.{if_then_else_, found, maybe}
 use Rattle.laws.specs.Lists.{pad}
 use Rattle.laws.specs.Sums.{total}
 use Rattle.laws.proofs.Tests.{lt-or-ge}
 use Rattle.rules.specs.Common as rules
-use Rattle.rules.specs.Sound.{Sound}
 use Rattle.table.specs.Table.{tableOf}
 use Rattle.table.specs.declared.Table.{Table}
 use Rattle.table.proofs.Facts.{tasks-count}
 use Rattle.common.specs.declared.Common.{Common}
 use Rattle.common.specs.Common.{job-of, commonOf, common-as, Given}
 use Rattle.common.proofs.Records.{Numbers, numbers, kept-count, length-is}
-use mathlib.Core.Logic.{_⊎_, inl, inr, ⊎-elim}
+use mathlib.Core.Logic.{_⊎_, ⊎-elim}
 
 pub record Sizes (t : Table) (c : Common) : Type 0 where
   pub places : length (c .tasks) ≡ 256

@@ -8,18 +8,18 @@ use Rattle.laws.specs.Sums.{total}
 use Rattle.table.specs.declared.Table.{Table}
 use Rattle.states.specs.Common.{common-in, all-below, small-common, in-place, known-tasks, known-common, common-at, commonIn}
 
-abbrev three : Table
+abbrev pub three : Table
 three = record { nodes = 3; timeout = 2; count = 3; longest = []; distance = []; deadline = []; slack = [] }
 
 -- B 3, W 122, O 3, one job kept, the last round at 120; E of task 0 is 220; the job kept is of task 2.
-words : List ℕ
+unfoldable pub words : List ℕ
 words = 3 ∷ 122 ∷ 3 ∷ 1 ∷ 1 ∷ 120 ∷ (220 ∷ replicate 63 0) ++ (2 ∷ replicate 255 0)
 
 -- the refusal, with the word at a place changed
 refusal-at : ℕ → ℕ → ℕ
 refusal-at place word = (commonIn (common-at three (set words place word))) .refusal
 
-unfoldable opened : Unit {0}
+unfoldable pub opened : Unit {0}
 unfolding common-at known-common common-in small-common in-place known-tasks all-below all-of total words refusal-at
 opened = tt
 

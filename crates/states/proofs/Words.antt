@@ -1,13 +1,15 @@
--- Laws of marks as words, and of the first words of a list.
-use mathlib.Core.Path.{_≡_, refl, ap}
-use mathlib.Core.Bool.{Bool, true, false, _||_, false≢true, true≢false}
+-- Laws of marks as words, of the first words of a list, and of sums that might wrap.
+use mathlib.Core.Path.{_≡_, refl, sym, ap, _∙_}
+use mathlib.Core.Bool.{Bool, true, false, _||_, true≢false}
 use mathlib.Core.List.{List, [], _∷_, _++_}
-use Prim.Native.Nat.{ℕ, zero, suc, _≤_}
+use mathlib.Core.Logic.{⊎-elim}
+use Prim.Native.Nat.{ℕ, zero, suc, _+_, _-_, _≤_}
 use native.Mathlib.Omega.{arith}
+use borrow.Author.Tests.{le-leb, lt-leb}
 use lib.ListN.{length, drop, getD}
-use Rattle.laws.specs.Tests.{_=?_}
+use Rattle.laws.specs.Tests.{_=?_, _≤?_}
 use Rattle.laws.specs.Lists.{rows}
-use Rattle.laws.proofs.Tests.{eqb-cases}
+use Rattle.laws.proofs.Tests.{eqb-cases, lt-or-ge}
 use Rattle.states.specs.Common.{mark}
 
 pub mark-back : (b : Bool) → (mark b =? 1) ≡ b
@@ -41,3 +43,8 @@ unfolding rows
 front zero l h = refl
 front (suc n) [] h = absurd (omega arith)
 front (suc n) (x ∷ l) h = ap (λ (m : List ℕ). x ∷ m) (front n l (omega arith))
+
+-- a sum tested by a difference
+pub by-difference : (a b c : ℕ) → a ≤ c → (b ≤? c - a) ≡ (a + b ≤? c)
+by-difference a b c h =
+    ⊎-elim (λ l. lt-leb b (c - a) l ∙ sym (lt-leb (a + b) c (omega arith))) (λ l. le-leb b (c - a) l ∙ sym (le-leb (a + b) c (omega arith))) (lt-or-ge (c - a) b)

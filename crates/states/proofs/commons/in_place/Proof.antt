@@ -1,13 +1,12 @@
 -- "Always B ≤ O ≤ L", a lemma for each way out: the differences say what the sums would.
-use mathlib.Core.Path.{_≡_}
-use mathlib.Core.Bool.{true, false}
-use mathlib.Core.Logic.{⊎-elim}
+use mathlib.Core.Path.{_≡_, sym}
+use mathlib.Core.Bool.{false, and-true}
 use Prim.Native.Nat.{ℕ, _+_, _-_, _≤_, _<_}
 use native.Mathlib.Omega.{arith}
 use borrow.Author.Tests.{le-leb, lt-leb}
 use Rattle.laws.specs.Tests.{_≤?_, all-of}
-use Rattle.laws.proofs.Tests.{lt-or-ge}
 use Rattle.states.specs.Common.{in-place}
+use Rattle.states.proofs.Words.{by-difference}
 use Rattle.states.proofs.commons.in_place.Statement.{statement}
 use Rattle.states.proofs.commons.in_place.Tie as tie
 
@@ -29,20 +28,7 @@ module _ (base offset count released : ℕ) where
       the-rest : base ≤ released → (count ≤? released - base) ≡ in-place base offset count released
       unfolding in-place all-of
       the-rest m =
-          ⊎-elim
-          (λ n. rw (
-            le-leb base offset h,
-            le-leb offset (base + count) (omega arith),
-            lt-leb count (released - base) n,
-            lt-leb (base + count) released (omega arith),
-          ))
-          (λ n. rw (
-            le-leb base offset h,
-            le-leb offset (base + count) (omega arith),
-            le-leb count (released - base) n,
-            le-leb (base + count) released (omega arith),
-          ))
-          (lt-or-ge (released - base) count)
+          rw (le-leb base offset h, le-leb offset (base + count) (omega arith), by-difference base count released m) (sym (and-true (base + count ≤? released)))
 
 returns : tie.Need-returns
 returns c = search below-base

@@ -3,7 +3,7 @@ use mathlib.Core.Path.{_≡_, sym, ap, _∙_}
 use mathlib.Core.Bool.{Bool, true, false, not, and-true}
 use mathlib.Core.List.{List}
 use Prim.Native.Nat.{ℕ, _^_, _≤_}
-use lib.ListN.{length, take, drop, getD}
+use lib.ListN.{take, drop, getD}
 use Rattle.laws.specs.Tests.{all-of}
 use Rattle.laws.specs.Sums.{total}
 use Rattle.table.specs.declared.Table.{Table}
