@@ -1,5 +1,7 @@
--- The words of a common record are a written form of it: what is taken was given back, its words are those that came in, and no record that was given
--- back is refused.
+-- The words of a common record are a written form of it: what is taken is `Given`, its words are those that came in, and no record that was given back is
+-- refused.
+--     taken-given, taken-words, given-taken     the three
+--     zero-given                                the first, of what `common_in` answers
 use mathlib.Core.Path.{_≡_, refl, sym, ap, subst, _∙_}
 use mathlib.Core.Bool.{Bool, true, false, not}
 use mathlib.Core.List.{List, [], _∷_}
@@ -24,7 +26,7 @@ use Rattle.words.specs.Words.{Bytes-in}
 use Rattle.states.specs.declared.commons.CommonIn.{CommonIn}
 use Rattle.states.specs.Common.{mark, common-words, common-in, all-below, small-common, in-place, known-tasks, known-common, common-at, commonIn}
 use Rattle.states.proofs.Below.{each-below, are-below, zeros, zeros-below}
-use Rattle.states.proofs.Words.{mark-back, mark-small, word-back, or-second, or-first, front}
+use Rattle.states.proofs.Words.{mark-back, mark-small, word-back, or-second, or-first, front, where-zero}
 use Rattle.states.proofs.Sizes.{Sizes, sizes-given, given-sizes}
 
 -- what the words have passed
@@ -40,16 +42,11 @@ taken h =
     let b = passed 102 _ (a .1) in
     record { long = eqb-true _ 326 (not-false _ (a .0)); known = not-false _ (b .0); is = same-done (b .1) }
 
--- what a refusal of 0 says, and another
+-- what a refusal of 0 says, and any other
 pub done-where-zero : (t : Table) (ws : List ℕ) {x : CommonIn} → x ≡ commonIn (common-at t ws) → x .refusal ≡ 0 → common-at t ws ≡ done (x .common)
 unfolding common-at
-done-where-zero t ws {x} p z = by (not (length ws =? 326)) (not (known-common t ws)) p
-  where
-    by : (a b : Bool) → x ≡ commonIn (refuse 100 if a else refuse 102 if b else done (common-in ws))
-        → (refuse 100 if a else refuse 102 if b else done (common-in ws)) ≡ done (x .common)
-    by true b e = absurd (omega (arith, z, ap (λ (x : CommonIn). x .refusal) e))
-    by false true e = absurd (omega (arith, z, ap (λ (x : CommonIn). x .refusal) e))
-    by false false e = ap (λ (x : CommonIn). done (x .common)) (sym e)
+done-where-zero t ws p z =
+    where-zero commonIn (λ x. x .refusal) (λ x. x .common) (λ n. refl) (λ c. refl) (not (length ws =? 326)) (not (known-common t ws)) (common-in ws) p z
 
 pub unknown-else : (t : Table) (ws : List ℕ) → length ws ≡ 326 → {x : CommonIn} → x ≡ commonIn (common-at t ws) → (x .refusal ≡ 0 → ⊥) → known-common t ws ≡ false
 unfolding common-at
@@ -156,11 +153,14 @@ module _ (ws : List ℕ) (long : length ws ≡ 326) where
           (lt-or-ge k (c .count));
     }
 
--- a common record that was taken is one that this library may have given back
+-- a record that was taken may be asked everything that one that was given back may be
 pub taken-given : (t : Table) (ws : List ℕ) {c : Common} → common-at t ws ≡ done c → Given t c
 taken-given t ws h =
     let k = taken h in
     subst (Given t) (k .is) (sizes-given (known-sizes ws (k .long) t (k .known)))
+
+pub zero-given : (t : Table) (ws : List ℕ) {x : CommonIn} → x ≡ commonIn (common-at t ws) → x .refusal ≡ 0 → Given t (x .common)
+zero-given t ws p z = taken-given t ws (done-where-zero t ws p z)
 
 -- and its words are those that came in
 pub taken-words : (t : Table) (ws : List ℕ) {c : Common} → common-at t ws ≡ done c → common-words c ≡ ws

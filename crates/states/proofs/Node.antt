@@ -1,7 +1,8 @@
--- The words of a node are a written form of it: what is taken was given back, its words are those that came in, and no node that was given back is
--- refused.
+-- The words of a node are a written form of it: what is taken is `Given`, its words are those that came in, and no node that was given back is refused.
+--     taken-given, taken-words, given-taken     the three
+--     zero-given                                the first, of what `node_in` answers
 use mathlib.Core.Path.{_≡_, refl, sym, ap, subst, _∙_}
-use mathlib.Core.Bool.{Bool, true, false, false≢true}
+use mathlib.Core.Bool.{Bool, true, false, not, false≢true}
 use mathlib.Core.Logic.{_⊎_, inl, inr, ⊎-elim}
 use mathlib.Core.Option.{some}
 use mathlib.Core.List.{List, [], _∷_, _++_}
@@ -28,9 +29,10 @@ use Rattle.node.specs.declared.Opening.the-variants as opening
 use Rattle.node.specs.declared.Node.{Node}
 use Rattle.node.specs.Node.{roundOf, Given}
 use Rattle.node.proofs.Laws.{common-given}
+use Rattle.states.specs.declared.nodes.NodeIn.{NodeIn}
 use Rattle.states.specs.Common.{mark, common-words, common-in, known-common}
-use Rattle.states.specs.Node.{sent-of, round-words, node-words, sent-in, round-in, node-in, known-own, known-sent, none-sent, known-round, known-before, known-node, node-at}
-use Rattle.states.proofs.Words.{mark-back, mark-small, word-back, front}
+use Rattle.states.specs.Node.{sent-of, round-words, node-words, sent-in, round-in, node-in, known-own, known-sent, none-sent, known-round, known-before, known-node, node-at, nodeIn}
+use Rattle.states.proofs.Words.{mark-back, mark-small, word-back, front, where-zero}
 use Rattle.states.proofs.Sizes.{Sizes, sizes-given, given-sizes}
 use Rattle.states.proofs.Common.{known-sizes, words-same, words-long, same-back, known-back}
 
@@ -110,24 +112,21 @@ module _ (last opened : ℕ) (s : Sent) where
       (which h)
 
 module _ (ws : List ℕ) (long : length ws ≡ 336) (t : Table) (h : known-node t ws ≡ true) where
-  abbrev rest : List ℕ
-  rest = drop 10 ws
-
   rest-long : length (drop 10 ws) ≡ 326
   rest-long = rw length-drop (omega arith)
 
-  common-known : known-common t (drop 10 ws) ≡ true
+  rest-known : known-common t (drop 10 ws) ≡ true
   unfolding known-node
-  common-known = each-of _ h 0
+  rest-known = each-of _ h 0
 
-  common-given′ : commons.Given t (common-in (drop 10 ws))
-  common-given′ = sizes-given (known-sizes (drop 10 ws) rest-long t common-known)
-
-  last-is : (common-in (drop 10 ws)) .base + (common-in (drop 10 ws)) .count ≡ L (commonOf (common-in (drop 10 ws)))
-  last-is = sym (length-is common-given′)
+  rest-given : commons.Given t (common-in (drop 10 ws))
+  rest-given = sizes-given (known-sizes (drop 10 ws) rest-long t rest-known)
 
   abbrev last : ℕ
   last = (common-in (drop 10 ws)) .base + (common-in (drop 10 ws)) .count
+
+  last-is : last ≡ L (commonOf (common-in (drop 10 ws)))
+  last-is = sym (length-is rest-given)
 
   own-known : Own (t .nodes) last (getD ws 0 0) (getD ws 1 0) (getD ws 2 0) (getD ws 3 0) (getD ws 4 0)
   unfolding known-node known-before
@@ -140,10 +139,10 @@ module _ (ws : List ℕ) (long : length ws ≡ 336) (t : Table) (h : known-node 
   known-given : Given t (node-in ws)
   unfolding node-in
   known-given = record {
-    exact = common-given′ .exact;
+    exact = rest-given .exact;
     sound = record {
       number = own-known .number-small;
-      common = common-given′ .sound;
+      common = rest-given .sound;
       progress = omega (arith, own-known .exists, word-back (getD ws 3 0) (own-known .one), last-is);
       completed = own-known .completed-small;
       latest = own-known .latest-small;
@@ -156,14 +155,20 @@ module _ (ws : List ℕ) (long : length ws ≡ 336) (t : Table) (h : known-node 
   node-same =
       let w = word-back (getD ws 3 0) (own-known .one) in
       let r = round-same last (getD ws 5 0) (sent-in ws) round-known in
-      let c = words-same (drop 10 ws) rest-long t common-known in
+      let c = words-same (drop 10 ws) rest-long t rest-known in
       (λ i. getD ws 0 0 ∷ getD ws 1 0 ∷ getD ws 2 0 ∷ w i ∷ getD ws 4 0 ∷ (r i ++ c i)) ∙ front 10 ws (omega arith)
 
--- a node that was taken is one that this library may have given back
+-- a node that was taken may be asked everything that one that was given back may be
 pub taken-given : (t : Table) (ws : List ℕ) {n : Node} → node-at t ws ≡ done n → Given t n
 taken-given t ws h =
     let k = taken h in
     subst (Given t) (k .is) (known-given ws (k .long) t (k .known))
+
+pub zero-given : (t : Table) (ws : List ℕ) {x : NodeIn} → x ≡ nodeIn (node-at t ws) → x .refusal ≡ 0 → Given t (x .node)
+unfolding node-at
+zero-given t ws p z =
+    taken-given t ws
+    (where-zero nodeIn (λ x. x .refusal) (λ x. x .node) (λ n. refl) (λ n. refl) (not (length ws =? 336)) (not (known-node t ws)) (node-in ws) p z)
 
 -- and its words are those that came in
 pub taken-words : (t : Table) (ws : List ℕ) {n : Node} → node-at t ws ≡ done n → node-words n ≡ ws

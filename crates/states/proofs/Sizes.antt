@@ -1,6 +1,7 @@
 -- What `Given` says of a common record by value, in its own numbers.
 use mathlib.Core.Path.{_≡_, refl, sym, ap, _∙_}
 use mathlib.Core.Bool.{Bool, true, false}
+use mathlib.Core.Logic.{⊎-elim}
 use mathlib.Core.Option.{Option, none, some}
 use mathlib.Core.List.{List, [], _∷_, _++_, map}
 use Prim.Native.Nat.{ℕ, _+_, _-_, _^_, _≤_, _<_}
@@ -18,7 +19,6 @@ use Rattle.table.proofs.Facts.{tasks-count}
 use Rattle.common.specs.declared.Common.{Common}
 use Rattle.common.specs.Common.{job-of, commonOf, common-as, Given}
 use Rattle.common.proofs.Records.{Numbers, numbers, kept-count, length-is}
-use mathlib.Core.Logic.{_⊎_, ⊎-elim}
 
 pub record Sizes (t : Table) (c : Common) : Type 0 where
   pub places : length (c .tasks) ≡ 256

@@ -1,4 +1,4 @@
--- Laws of marks as words, of the first words of a list, and of sums that might wrap.
+-- Laws of marks as words, of the first words of a list, of sums that might wrap, and of answers in structs.
 use mathlib.Core.Path.{_≡_, refl, sym, ap, _∙_}
 use mathlib.Core.Bool.{Bool, true, false, _||_, true≢false}
 use mathlib.Core.List.{List, [], _∷_, _++_}
@@ -10,6 +10,7 @@ use lib.ListN.{length, drop, getD}
 use Rattle.laws.specs.Tests.{_=?_, _≤?_}
 use Rattle.laws.specs.Lists.{rows}
 use Rattle.laws.proofs.Tests.{eqb-cases, lt-or-ge}
+use Rattle.rules.specs.Answer.{Answer, done, refused, refuse_if_else_}
 use Rattle.states.specs.Common.{mark}
 
 pub mark-back : (b : Bool) → (mark b =? 1) ≡ b
@@ -48,3 +49,12 @@ front (suc n) (x ∷ l) h = ap (λ (m : List ℕ). x ∷ m) (front n l (omega ar
 pub by-difference : (a b c : ℕ) → a ≤ c → (b ≤? c - a) ≡ (a + b ≤? c)
 by-difference a b c h =
     ⊎-elim (λ l. lt-leb b (c - a) l ∙ sym (lt-leb (a + b) c (omega arith))) (λ l. le-leb b (c - a) l ∙ sym (le-leb (a + b) c (omega arith))) (lt-or-ge (c - a) b)
+
+-- an answer in a struct: a refusal of 0 stands beside what was asked for
+module _ {A X : Type 0} (f : Answer A → X) (number : X → ℕ) (value : X → A) where
+  pub where-zero : ((n : ℕ) → number (f (refused n)) ≡ n) → ((y : A) → value (f (done y)) ≡ y)
+      → (a b : Bool) (y : A) {x : X} → x ≡ f (refuse 100 if a else refuse 102 if b else done y) → number x ≡ 0
+      → (refuse 100 if a else refuse 102 if b else done y) ≡ done (value x)
+  where-zero k v true b y p z = absurd (omega (arith, z, ap number p, k 100))
+  where-zero k v false true y p z = absurd (omega (arith, z, ap number p, k 102))
+  where-zero k v false false y p z = ap done (sym (ap value p ∙ v y))
