@@ -6,7 +6,7 @@ use round::Place;
 use round::Report;
 ghost use mathlib.Core.Path.{_≡_};
 ghost use mathlib.Core.Bool.{true};
-ghost use mathlib.Core.List.{[], map};
+ghost use mathlib.Core.List.{map};
 ghost use Prim.Native.Nat.{_+_, _^_, _≤_, _<_};
 ghost use lib.ListN.{take};
 ghost use Rattle.laws.specs.Tests.{if_then_else_};
@@ -53,7 +53,8 @@ fn start_of(b: Before, e: Report) -> u64
     e.completed
 }
 
-fn with_class<'a>(
+// "Each entry gets the first class that fits"; beside it stands what the passes read.
+pub fn with_class<'a>(
     longest: &'a [u64; 64],
     slack: &'a [u64; 64],
     tasks: &'a [u8; 256],
@@ -76,19 +77,6 @@ fn with_class<'a>(
     }
 }
 
-// Fifteen places with none in them: a function of its own, so that no other proof meets the places written out.
-fn none_classed() -> [Classed; 15]
-    ensures { λ r. ⌜ r ≡ pad 15 no-class [] ⌝ }
-{
-    let none = Classed {
-        class: 0,
-        progress: 0,
-        front: 0,
-        start: 0,
-    };
-    [none; 15]
-}
-
 pub fn judge_entries<'a>(
     longest: &'a [u64; 64],
     slack: &'a [u64; 64],
@@ -104,7 +92,7 @@ pub fn judge_entries<'a>(
         (λ p. classed-at (now (longest .entry)) (now (slack .entry)) (now (tasks .entry)) (now (earliest .entry)) b (entryOf (p .entry)))
         (take n entries)) ⌝ }
 {
-    let mut all = none_classed();
+    let mut all = passes::none_classed();
     let mut i = 0;
     while i < n {
         let place = entries[i];

@@ -1,13 +1,13 @@
 // The passes over the entries of a round, from the highest node down.
 ghost use mathlib.Core.Path.{_≡_};
-ghost use mathlib.Core.List.{foldr, map};
+ghost use mathlib.Core.List.{[], foldr, map};
 ghost use Prim.Native.Nat.{_+_, _/_, _≤_, _<_, max, min};
 ghost use lib.ListN.{take};
 ghost use Rattle.laws.specs.Tests.{_≤?_};
 ghost use Rattle.laws.specs.Search.{number-of};
 ghost use Rattle.laws.specs.Lists.{pad};
 ghost use Rattle.laws.proofs.Folds.{bits, with-bit};
-ghost use Rattle.passes.specs.Classed.{class-in, in-front, front-step, rear-step, start-step, is-rear, is-back, back-of};
+ghost use Rattle.passes.specs.Classed.{no-class, class-in, in-front, front-step, rear-step, start-step, is-rear, is-back, back-of};
 
 // An entry with its class: what the passes over the entries of a round read of it.
 pub struct Classed {
@@ -15,6 +15,19 @@ pub struct Classed {
     pub progress: u64,
     pub front: u64,
     pub start: u64,
+}
+
+// Fifteen places with none in them: a function of its own, so that no other proof meets the places written out.
+pub fn none_classed() -> [Classed; 15]
+    ensures { λ r. ⌜ r ≡ pad 15 no-class [] ⌝ }
+{
+    let none = Classed {
+        class: 0,
+        progress: 0,
+        front: 0,
+        start: 0,
+    };
+    [none; 15]
 }
 
 fn larger(a: u64, b: u64) -> u64

@@ -1,8 +1,8 @@
--- `entries::none_classed` meets its contract. Assumes nothing.
+-- `passes::none_classed` meets its contract. Assumes nothing.
 use mathlib.Core.Path.{refl}
 use Rattle.laws.specs.Lists.{pad}
-use Rattle.judge.proofs.entries.none_classed.Statement.{statement}
-use Rattle.judge.proofs.entries.none_classed.Tie as tie
+use Rattle.passes.proofs.none_classed.Statement.{statement}
+use Rattle.passes.proofs.none_classed.Tie as tie
 
 returns : tie.Need-returns
 unfolding pad
