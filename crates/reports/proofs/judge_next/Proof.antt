@@ -1,0 +1,71 @@
+-- `reports::judge_next` meets its contract: a lemma for each way out. Assumes nothing.
+use mathlib.Core.Path.{_≡_, sym, ap, _∙_}
+use Prim.Native.Nat.{_+_, _≤_, _<_}
+use borrow.Author.Tests.{le-leb, lt-leb}
+use lib.ListN.{set}
+use Rattle.table.specs.Table.{tableOf}
+use Rattle.common.specs.Common.{commonOf}
+use Rattle.round.specs.declared.Entry.{Entry}
+use Rattle.round.specs.Round.{entryOf, entry-as}
+use Rattle.round.proofs.Same.{entry-there}
+use Rattle.passes.specs.declared.Classed.{Classed}
+use Rattle.judge.specs.Judgement.{classed-as}
+use Rattle.reports.specs.declared.Told.{Told}
+use Rattle.reports.specs.declared.Judging.{Judging}
+use Rattle.reports.specs.Reports.{toldOf, judged, with-next}
+use borrow.Author.Needs.{needs}
+use Rattle.reports.proofs.judge_next.Statement.{statement}
+use Rattle.reports.proofs.judge_next.Tie as tie
+use Rattle.reports.proofs.judge_next.Reads as reads
+use Rattle.reports.proofs.judge_next.Lts as lts
+use Rattle.judge.proofs.classed_entry.Reads as classed-entry-reads
+use Rattle.reports.proofs.entry_of.Reads as entry-of-reads
+
+module _ (a : Judging) (e : Told) where
+  full : 15 ≤ a .count → a ≡ with-next a e
+  unfolding with-next
+  full h = rw (le-leb 15 (a .count) h)
+
+  module _ (h : a .count < 15) {entry : Entry} (p : entry ≡ entry-as (toldOf e)) {x : Classed}
+      (q : x ≡ classed-as (tableOf (a .basis .table)) (commonOf (a .basis .common)) (a .basis .time) (entryOf entry)) where
+    is-judged : x ≡ judged (a .basis) e
+    is-judged =
+        q ∙ ap (λ (o : Entry). classed-as (tableOf (a .basis .table)) (commonOf (a .basis .common)) (a .basis .time) (entryOf o)) p
+        ∙ ap (classed-as (tableOf (a .basis .table)) (commonOf (a .basis .common)) (a .basis .time)) (entry-there (toldOf e))
+
+    more : record { basis = a .basis; count = a .count + 1; all = set (a .all) (a .count) x } ≡ with-next a e
+    unfolding with-next
+    more = rw (lt-leb 15 (a .count) h) (ap (λ (x : Classed). record { basis = a .basis; count = a .count + 1; all = set (a .all) (a .count) x }) is-judged)
+
+returns : tie.Need-returns
+returns c = search full
+
+entry-of-requires : tie.Need-entry-of-requires
+entry-of-requires c κs = search needs
+
+classed-entry-requires : tie.Need-classed-entry-requires
+classed-entry-requires c κs = search needs
+
+mul-x : tie.Need-mul-x
+mul-x c = search needs
+
+element-set-from-x : tie.Need-element-set-from-x
+element-set-from-x c = search needs
+
+add-next : tie.Need-add-next
+add-next c = search needs
+
+returns-2 : tie.Need-returns-2
+returns-2 c = search more
+
+pub judge-next-spec : {M : Type 1} → statement M
+judge-next-spec =
+    tie.close
+    (tie.spec
+    returns
+    entry-of-requires
+    classed-entry-requires
+    mul-x
+    element-set-from-x
+    add-next
+    returns-2)
