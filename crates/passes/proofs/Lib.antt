@@ -1,0 +1,2 @@
+-- What follows from the contracts of the passes.
+pub mod Settled
