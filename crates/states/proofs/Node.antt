@@ -42,7 +42,7 @@ pub record Taken (t : Table) (ws : List ℕ) (n : Node) : Type 0 where
   pub known : known-node t ws ≡ true
   pub is : node-in ws ≡ n
 
-taken : {t : Table} {ws : List ℕ} {n : Node} → node-at t ws ≡ done n → Taken t ws n
+pub taken : {t : Table} {ws : List ℕ} {n : Node} → node-at t ws ≡ done n → Taken t ws n
 unfolding node-at
 taken h =
     let a = passed 100 _ h in

@@ -40,7 +40,7 @@ fn refused_table(n: u64) -> TableIn
 }
 
 // Word by word; nothing is asked of the numbers yet. A count is 64 bits in the word and in the table, so that none is cut.
-fn table_of(words: &[u64]) -> Table
+pub fn table_of(words: &[u64]) -> Table
     requires { ⌜ length (now words) ≡ 259 ⌝ }
     ensures { λ r. ⌜ r ≡ table-in (now (words .entry)) ⌝ }
 {

@@ -3,7 +3,7 @@ use mathlib.Core.Path.{refl}
 use Prim.Native.Nat.{_-_}
 use lib.ListN.{length}
 use borrow.Author.Needs.{needs}
-use Rattle.words.proofs.Copies.{Putting, put-start, put-at, put-next, put-end}
+use Rattle.words.proofs.Copies.{Putting, put-start, put-next, put-end}
 use Rattle.states.proofs.runs.put_run.Statement.{statement}
 use Rattle.states.proofs.runs.put_run.Tie as tie
 
@@ -29,7 +29,7 @@ mul-words-2 : tie.Need-mul-words-2 Inv-loop μ-loop
 mul-words-2 c = search needs
 
 slice-write-words : tie.Need-slice-write-words Inv-loop μ-loop
-slice-write-words c = search put-at
+slice-write-words c = search needs
 
 add-i : tie.Need-add-i Inv-loop μ-loop
 add-i c = search needs
