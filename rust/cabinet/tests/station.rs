@@ -33,8 +33,10 @@ fn what_each_round_tells_beside_its_line() {
 }
 
 #[test]
-fn the_readers_after_round_0() {
+fn the_readers_at_the_start_and_after_round_0() {
     let table = canal();
+    let fresh = Common::fresh();
+    assert_eq!((fresh.length(), fresh.last_round(), fresh.order()), (0, None, &[][..]));
     let common = after(&table, &[round_0()]);
     assert_eq!((common.base(), common.offset(), common.length(), common.next_start()), (0, 0, 2, 2));
     assert_eq!((common.last_round(), common.order()), (Some(0), &[1, 2][..]));

@@ -2,7 +2,8 @@
 
 #![allow(dead_code)]
 
-use cabinet::{Closing, Common, Entry, Node, Record, Refusal, Release, Report, Table, Task};
+use cabinet::layout::NUMBER_BYTES;
+use cabinet::{write_number, Closing, Common, Entry, Node, Record, Refusal, Release, Report, Table, Task};
 
 pub fn task(c: u64, t: u64, d: u64, s: u64) -> Task {
     Task { c, t, d, s }
@@ -40,6 +41,28 @@ pub fn round_10() -> Record {
 
 pub fn round_120() -> Record {
     record(120, &[(0, 0)], &[entry(3, 45, 0), entry(3, 60, 0), None])
+}
+
+/// The worked canal's session as numbers: the table, then the three records.
+pub const SESSION: &[u64] = &[
+    3, 2, 3, 10, 100, 100, 40, 20, 200, 200, 50, 30, 400, 400, 40, //
+    0, 2, 1, 0, 2, 1, 3, 1, 0, 0, 0, 1, 0, 0, 0, 1, 0, 0, 0, //
+    10, 1, 0, 0, 3, 1, 1, 8, 0, 1, 0, 0, 1, 1, 2, 10, 0, //
+    120, 1, 0, 0, 3, 1, 3, 45, 0, 1, 3, 60, 0, 0,
+];
+
+/// How many of them are the table's.
+pub const TABLE_NUMBERS: usize = 15;
+
+/// Numbers as a session has them, back to back.
+pub fn bytes(numbers: &[u64]) -> Vec<u8> {
+    let mut bytes = Vec::new();
+    for &number in numbers {
+        let mut groups = [0; NUMBER_BYTES];
+        let used = write_number(&mut groups, number).expect("a number below 2^63");
+        bytes.extend(&groups[..used]);
+    }
+    bytes
 }
 
 /// A station after these rounds, none of which may be refused.
