@@ -1,6 +1,6 @@
 # make test: the gate. make run: proves and builds what it needs, and runs the worked canal.
 # make trials, make trials-selftest and make bench are no part of the gate; the gate has a short run of the trials.
-.PHONY: test run trials trials-selftest bench rust session
+.PHONY: test run trials trials-selftest bench rust session cabinet examples
 
 test:
 	@./.ci/gate
@@ -10,6 +10,19 @@ session:
 
 rust:
 	@cargo build --quiet --offline --release --manifest-path rust/Cargo.toml
+
+# The static library for C and Rust: target/staticlib/libcabinet.a.
+cabinet:
+	@rt staticlib cabinet
+
+# LIB: a folder with another libcabinet.a; then nothing is proved or built here but the examples.
+ifdef LIB
+examples:
+else
+LIB = target/staticlib
+examples: cabinet
+endif
+	@tests/examples $(LIB)
 
 # CANAL: any file of decimal numbers.
 CANAL ?= examples/worked-canal.txt
