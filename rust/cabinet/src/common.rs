@@ -51,7 +51,8 @@ impl Common {
 
     /// A common record that was stored as words; 100 or 102 where it is none
     /// for this table. Asking for the projection of its base changes nothing,
-    /// and the library looks at all words first.
+    /// and the library looks at all words first. It looks at ranges: a damaged
+    /// word that leaves them whole is not told, so store a check sum beside.
     pub fn from_words(table: &Table, words: &[u64]) -> Result<Common, Refusal> {
         let base = words.first().copied().unwrap_or(0);
         accepted(ffi::projection(table.words(), words, base).refusal)?;

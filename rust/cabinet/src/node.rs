@@ -38,7 +38,8 @@ impl Node {
 
     /// A node that was stored as words; 100 or 102 where it is none for this
     /// table. A start at 2^48 is refused 3 by every node, and the library looks
-    /// at all words before: so 3, and only 3, says that they are a node.
+    /// at all words before: so 3, and only 3, says that they are a node. As with
+    /// a common record, a damaged word within its range is not told.
     pub fn from_words(table: &Table, words: &[u64]) -> Result<Node, Refusal> {
         let mut copy = words.to_vec();
         match ffi::start(table.words(), &mut copy, TOO_LATE).refusal {

@@ -86,3 +86,30 @@ pub(crate) fn value_or_task(reply: Reply) -> Result<u64, Refusal> {
         number => Err(Refusal { number, task: None }),
     }
 }
+
+#[cfg(test)]
+mod tests {
+    use super::{accepted, value_or_task};
+    use crate::ffi::Reply;
+
+    #[test]
+    fn every_number_has_a_text_of_one_line() {
+        let unknown = accepted(23).unwrap_err().text();
+        let mut texts: Vec<&str> =
+            (1..=22).chain(100..=104).map(|number| accepted(number).unwrap_err().text()).collect();
+        assert!(texts.iter().all(|text| *text != unknown && !text.contains('\n')));
+        texts.sort_unstable();
+        texts.dedup();
+        assert_eq!(texts.len(), 27, "no two have the same");
+    }
+
+    #[test]
+    fn only_2_and_9_name_a_task() {
+        for number in (1..=22).chain(100..=104) {
+            let refusal = value_or_task(Reply { refusal: number, value: 7 }).unwrap_err();
+            assert_eq!(refusal.task(), [2, 9].contains(&number).then_some(7));
+        }
+        assert_eq!(value_or_task(Reply { refusal: 0, value: 7 }), Ok(7));
+        assert_eq!(accepted(2).unwrap_err().to_string(), "refused 2: a table rule is broken");
+    }
+}
