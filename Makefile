@@ -1,6 +1,6 @@
 # make test: the gate. make run: proves and builds what it needs, and runs the worked canal.
 # make trials, make trials-selftest and make bench are no part of the gate; the gate has a short run of the trials.
-.PHONY: test run trials trials-selftest bench rust session cabinet examples
+.PHONY: test run trials trials-selftest bench rust session cabinet examples drill
 
 test:
 	@./.ci/gate
@@ -23,6 +23,12 @@ LIB = target/staticlib
 examples: cabinet
 endif
 	@tests/examples $(LIB)
+
+# SCRIPT: any file of drill commands.
+SCRIPT ?= examples/worked-canal.drill
+drill: cabinet
+	@cargo build --quiet --offline --release --manifest-path rust/Cargo.toml --package drill
+	@rust/target/release/drill --echo $(SCRIPT)
 
 # CANAL: any file of decimal numbers.
 CANAL ?= examples/worked-canal.txt
