@@ -2,11 +2,13 @@
  * The doors of the cabinet's ordering software, for C and C++.
  *
  * States are arrays of 64-bit words in the caller's memory, of the lengths stated here. The library has no heap, keeps nothing between calls,
- * and trusts nothing: an array of another length, a table that does not pass the check and a state that the library does not write under that
- * table get a refusal of their own (100 and above) and change nothing. Of the caller it asks only that each pointer is valid for its length
+ * and trusts nothing: an array of another length, a table that does not pass the check and a state that lacks what every state under that table
+ * has get a refusal of their own (100 and above) and change nothing. No state that the library wrote is refused; words that it never wrote are
+ * taken where they are in the ranges of a state, and every call is exact on them too. Of the caller it asks only that each pointer is valid for its length
  * (never NULL, not even with a length of 0) and that an array to be written overlaps no other.
  *
- * Every reply begins with `refusal`: 0 where the call was accepted, else the number. A refusal changes nothing in any lent array. The lent arrays
+ * Every reply begins with `refusal`: 0 where the call was accepted, else the number; the rest of a refused reply is 0 but for what is said here
+ * (2 and 9 name a task; no back-runner is CABINET_NODES). A refusal changes nothing in any lent array. The lent arrays
  * are looked at from left to right, each first for its length and then for what it holds; the refusals of a call stand in the order in which
  * they are tried.
  */
@@ -32,7 +34,8 @@ extern "C" {
 #define CABINET_NODE_WORDS 336
 #define CABINET_NODE_COMMON 10
 
-/* A list of releases has two words for each, task and delay; a list of entries four: 0 (missing) or 1, progress, completion time, run. */
+/* A list of releases has two words for each, task and delay; a list of entries four: 0 (missing) or 1, progress, completion time, run. A list whose
+ * length is no multiple of these is of a wrong length. */
 #define CABINET_RELEASE_WORDS 2
 #define CABINET_ENTRY_WORDS 4
 
@@ -43,7 +46,7 @@ extern "C" {
 /* Refusals of the doors themselves, outside document 01's 1 to 22. */
 #define CABINET_WRONG_LENGTH 100 /* a lent array has another length than the call states */
 #define CABINET_WRONG_TABLE 101  /* the table does not pass the check: cabinet_check_table says why */
-#define CABINET_WRONG_STATE 102  /* the state is none that this library writes under this table */
+#define CABINET_WRONG_STATE 102  /* the state is out of the ranges of every state that this library writes under this table */
 #define CABINET_WRONG_MARK 103   /* an entry's first word is above 1 */
 #define CABINET_NO_POSITION 104  /* the common record keeps no such position */
 
@@ -157,7 +160,8 @@ cabinet_number_reply cabinet_read_number(const uint8_t *bytes, size_t length);
 /* A number into the first bytes; `value` is how many. Refusals: 22, 21. */
 cabinet_reply cabinet_write_number(uint8_t *bytes, size_t length, uint64_t number);
 
-/* A task table at the first byte, as a session begins with; `value` is the bytes used. Refusals: 100; 18, 19, 1, 2. */
+/* A task table at the first byte, as a session begins with; `value` is the bytes used. The places past the tasks are written 0. Refusals: 100;
+ * 18, 19, 1, 2, which names no task here. */
 cabinet_reply cabinet_read_table(const uint8_t *bytes, size_t length, uint64_t *table, size_t table_words);
 
 /* The record at the first byte, into lent lists. Places past the counts stay. Refusals: 100 (releases, entries); 15, 18, 19, 20, 21 as met. */
