@@ -1,0 +1,13 @@
+pub mod Plain
+pub mod Replies
+pub mod Rounds
+pub mod Bytes
+pub mod Watching
+pub mod Beginning
+pub mod Standing
+pub mod Asking
+pub mod Ordering
+pub mod Doing
+pub mod Reading
+pub mod Again
+pub mod Settled
