@@ -4,20 +4,21 @@
 use crate::sum;
 use crate::table::Table;
 
+/// Open, so that a record that was stored can be put together again.
 #[derive(Clone, Debug, PartialEq, Eq)]
 pub struct Common {
     /// The tasks of the jobs at positions B + 1 to L.
-    pub(crate) jobs: Vec<usize>,
+    pub jobs: Vec<usize>,
     /// B, the back-runner's progress.
-    pub(crate) base: u64,
+    pub base: u64,
     /// W, the back-runner's next start time.
-    pub(crate) next_start: u64,
+    pub next_start: u64,
     /// O, the insertion offset.
-    pub(crate) offset: u64,
+    pub offset: u64,
     /// E(i), the earliest next release of task i.
-    pub(crate) earliest: [u64; Common::TASKS],
+    pub earliest: [u64; Common::TASKS],
     /// The last round's time; none while "no round has been".
-    pub(crate) last_round: Option<u64>,
+    pub last_round: Option<u64>,
 }
 
 /// A kept job together with what `projection` says of its position.

@@ -18,14 +18,15 @@ pub struct Round {
     pub lock: u64,
 }
 
+/// Open, so that a node that was stored can be put together again.
 #[derive(Clone, Debug, PartialEq, Eq)]
 pub struct Node {
-    number: usize,
-    progress: u64,
-    completion: u64,
-    running: bool,
-    latest: u64,
-    round: Option<Round>,
+    pub number: usize,
+    pub progress: u64,
+    pub completion: u64,
+    pub running: bool,
+    pub latest: u64,
+    pub round: Option<Round>,
 }
 
 /// What an accepted close tells: the judgement, and whether this node is now

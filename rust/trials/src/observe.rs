@@ -12,10 +12,8 @@ use reference::session::read_table;
 use reference::written::{read_number, read_record, Bytes, Fault};
 use reference::{close, Common, Refusal, Table};
 
-/// Everything that a trial has to reach. A report is never both over bound and
-/// late (`alike/class-5-before-4.edit` says why), so no edge between these two
-/// stands here; back-runner and majority are not printed by a session.
-pub const WANTED: &[&str] = &[
+/// What a session has to reach besides its rounds.
+pub const SESSIONS: &[&str] = &[
     "refusal 1: no node",
     "refusal 1: more than 15 nodes",
     "refusal 1: timeout 0",
@@ -28,14 +26,36 @@ pub const WANTED: &[&str] = &[
     "refusal 2: S + C > D",
     "refusal 2: S below a lower task's C",
     "refusal 2: timeout above C",
-    "refusal 3: r above 2^48 - 1",
-    "refusal 3: r is 2^48",
-    "refusal 14: r too soon",
-    "refusal 14: by one",
     "refusal 15: release count above 64 while reading",
     "refusal 15: release count 65",
     "refusal 15: entry count above 15 while reading",
     "refusal 15: entry count 16",
+    "refusal 18: in the table",
+    "refusal 18: in a record",
+    "refusal 19: ninth group goes on, in the table",
+    "refusal 19: ninth group goes on, in a record",
+    "refusal 19: last group 0, in the table",
+    "refusal 19: last group 0, in a record",
+    "refusal 20: mark above 1",
+    "refusal 20: mark of several bytes",
+    "table: 1 node",
+    "table: 15 nodes",
+    "table: 1 task",
+    "table: 64 tasks",
+    "table: a value of 2^32 - 1",
+    "session: no record",
+    "session: ends between records",
+    "session: 300 rounds or more",
+];
+
+/// What the rounds have to reach. A report is never both over bound and late
+/// (`alike/class-5-before-4.edit` says why), so no edge between these two stands
+/// here; back-runner and majority are not printed by a session.
+pub const ROUNDS: &[&str] = &[
+    "refusal 3: r above 2^48 - 1",
+    "refusal 3: r is 2^48",
+    "refusal 14: r too soon",
+    "refusal 14: by one",
     "refusal 15: entry count below m",
     "refusal 15: entry count above m",
     "refusal 15: unknown task",
@@ -50,14 +70,6 @@ pub const WANTED: &[&str] = &[
     "refusal 17: order full",
     "refusal 17: by one",
     "refusal 17: though the base moves",
-    "refusal 18: in the table",
-    "refusal 18: in a record",
-    "refusal 19: ninth group goes on, in the table",
-    "refusal 19: ninth group goes on, in a record",
-    "refusal 19: last group 0, in the table",
-    "refusal 19: last group 0, in a record",
-    "refusal 20: mark above 1",
-    "refusal 20: mark of several bytes",
     "class 0",
     "class 0: completion at r",
     "class 0: completion at the projection",
@@ -109,46 +121,46 @@ pub const WANTED: &[&str] = &[
     "release: would stand before the new offset by the old one",
     "order: 256 kept",
     "order: 256 kept by the new base",
-    "table: 1 node",
-    "table: 15 nodes",
-    "table: 1 task",
-    "table: 64 tasks",
-    "table: a value of 2^32 - 1",
-    "session: no record",
-    "session: ends between records",
-    "session: 300 rounds or more",
 ];
 
 /// How often each thing on the list was reached.
 pub struct Reached {
+    wanted: Vec<&'static str>,
     counts: BTreeMap<&'static str, u64>,
 }
 
+/// What sessions have to reach.
 impl Default for Reached {
     fn default() -> Reached {
-        Reached { counts: WANTED.iter().map(|&what| (what, 0)).collect() }
+        Reached::wanting(&[SESSIONS, ROUNDS])
     }
 }
 
 impl Reached {
-    fn note(&mut self, what: &'static str) {
+    pub fn wanting(lists: &[&[&'static str]]) -> Reached {
+        let wanted = lists.concat();
+        let counts = wanted.iter().map(|&what| (what, 0)).collect();
+        Reached { wanted, counts }
+    }
+
+    pub(crate) fn note(&mut self, what: &str) {
         *self.counts.get_mut(what).unwrap_or_else(|| panic!("{what:?} is not on the list")) += 1;
     }
 
-    fn note_if(&mut self, holds: bool, what: &'static str) {
+    pub(crate) fn note_if(&mut self, holds: bool, what: &str) {
         if holds {
             self.note(what);
         }
     }
 
     pub fn missing(&self) -> Vec<&'static str> {
-        WANTED.iter().copied().filter(|what| self.counts[what] == 0).collect()
+        self.wanted.iter().copied().filter(|what| self.counts[what] == 0).collect()
     }
 
     /// The list with its counts, in the list's order.
     pub fn summary(&self) -> String {
         let mut lines = String::new();
-        for what in WANTED {
+        for what in &self.wanted {
             writeln!(lines, "{:>9}  {what}", self.counts[what]).expect("a string takes every line");
         }
         lines

@@ -53,6 +53,17 @@ impl Random {
         self.pick(&[value.saturating_sub(1), value, value, value + 1]).min((1 << 63) - 1)
     }
 
+    /// The value, one less or one more, up to 2^64 - 1: a call takes what cannot be written.
+    pub fn about(&mut self, value: u64) -> u64 {
+        self.pick(&[value.saturating_sub(1), value, value, value.saturating_add(1)])
+    }
+
+    /// A value at or around a width's edge, up to 2^64 - 1.
+    pub fn widest(&mut self) -> u64 {
+        let edge = self.pick(&[0, 1 << 32, 1 << 48, 1 << 49, 1 << 63, u64::MAX]);
+        self.about(edge)
+    }
+
     /// A value at or around a width's edge that can still be written.
     pub fn wide(&mut self) -> u64 {
         let edge = self.pick(&[1 << 16, 1 << 32, 1 << 48, 1 << 62, (1 << 63) - 2]);

@@ -34,22 +34,39 @@ impl<'a> Play<'a> {
 
     /// The next record, which the play has closed unless it is refused.
     pub fn next(&mut self, random: &mut Random) -> (Record, bool) {
+        let record = Around { table: self.table, common: &self.common, mood: self.mood }.record(random);
+        let accepted = close(self.table, &mut self.common, &record).is_ok();
+        (record, accepted)
+    }
+}
+
+/// A common record, around which times, reports and releases are chosen.
+#[derive(Clone, Copy)]
+pub struct Around<'a> {
+    pub table: &'a Table,
+    pub common: &'a Common,
+    pub mood: Mood,
+}
+
+impl Around<'_> {
+    /// A record that a station may be given next.
+    pub fn record(&self, random: &mut Random) -> Record {
         let r = self.time(random);
         let mut record = Record { r, releases: Vec::new(), entries: self.entries(random, r) };
         record.releases = self.releases(random, &record);
         if random.chance(self.mood.spoilt, 1000) {
             self.spoil(random, &mut record);
         }
-        let accepted = close(self.table, &mut self.common, &record).is_ok();
-        (record, accepted)
+        record
     }
 
     /// The least r that is not refused 14.
-    fn soonest(&self) -> u64 {
+    pub fn soonest(&self) -> u64 {
         self.common.last_round().map_or(0, |last| last + self.table.timeout())
     }
 
-    fn time(&self, random: &mut Random) -> u64 {
+    /// The next round's time.
+    pub fn time(&self, random: &mut Random) -> u64 {
         if self.common.last_round().is_none() {
             return self.mood.first;
         }
@@ -72,19 +89,31 @@ impl<'a> Play<'a> {
         random.between(self.common.base(), self.common.length())
     }
 
-    fn projection(&self, random: &mut Random) -> u64 {
+    /// The projection of some position.
+    pub fn projection(&self, random: &mut Random) -> u64 {
         self.common.projection(self.table, self.position(random))
     }
 
     /// A time at which the bound of some position begins to hold for a task.
-    fn bound_edge(&self, random: &mut Random) -> u64 {
+    pub fn bound_edge(&self, random: &mut Random) -> u64 {
         let higher = self.task(random);
         self.projection(random).saturating_sub(self.table.tasks()[higher].slack)
     }
 
+    /// The first time at which the bound holds for a position from B + 1 to L.
+    pub fn bound_from(&self, position: u64) -> u64 {
+        let projection = self.common.projection(self.table, position);
+        let higher = self.table.tasks().iter().take(self.common.task_at(position)).enumerate();
+        higher
+            .filter(|(task, higher)| self.common.earliest(*task) + higher.slack < projection)
+            .map(|(_, higher)| projection - higher.slack)
+            .max()
+            .unwrap_or(0)
+    }
+
     /// Releases for a record whose entries are known.
-    fn releases(&self, random: &mut Random, record: &Record) -> Vec<Release> {
-        let base = judge(self.table, &self.common, record).base;
+    pub fn releases(&self, random: &mut Random, record: &Record) -> Vec<Release> {
+        let base = judge(self.table, self.common, record).base;
         let count = if self.mood.crowded { self.fill(random, base) } else { random.weighted(FEW) };
         let mut tasks: Vec<usize> = (0..self.table.tasks().len()).collect();
         let mut releases: Vec<Release> = Vec::new();
@@ -118,7 +147,7 @@ impl<'a> Play<'a> {
     }
 
     /// The last position up to which every one past the offset keeps the bound.
-    fn front(&self, r: u64) -> u64 {
+    pub fn front(&self, r: u64) -> u64 {
         self.common
             .kept(self.table)
             .filter(|job| job.position > self.common.offset())
@@ -127,7 +156,8 @@ impl<'a> Play<'a> {
             .map_or(self.common.offset(), |job| job.position)
     }
 
-    fn entries(&self, random: &mut Random, r: u64) -> Vec<Option<Report>> {
+    /// One entry a node.
+    pub fn entries(&self, random: &mut Random, r: u64) -> Vec<Option<Report>> {
         let front = self.front(r);
         let base = self.common.base();
         let further = random.between(base, front.min(base + 3));
@@ -146,7 +176,15 @@ impl<'a> Play<'a> {
         entries
     }
 
-    fn report(&self, random: &mut Random, r: u64, floor: u64, front: u64, other: Option<Report>) -> Report {
+    /// A report between a floor and a front, or about them; `other` is the report before it.
+    pub fn report(
+        &self,
+        random: &mut Random,
+        r: u64,
+        floor: u64,
+        front: u64,
+        other: Option<Report>,
+    ) -> Report {
         let mut progress = self.progress(random, floor, front);
         if random.chance(7, 8) {
             progress = progress.max(floor);
@@ -198,7 +236,7 @@ impl<'a> Play<'a> {
     }
 
     /// Changes a record so that it is most likely refused.
-    fn spoil(&self, random: &mut Random, record: &mut Record) {
+    pub fn spoil(&self, random: &mut Random, record: &mut Record) {
         match random.below(16) {
             0 | 1 => record.r = self.soonest().saturating_sub(1),
             2 => record.r = random.near(LATEST_TIME + 1),

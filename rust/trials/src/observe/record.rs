@@ -7,7 +7,7 @@ use reference::{Common, Record, Reply, Report, Table, LATEST_TIME};
 use super::Reached;
 
 impl Reached {
-    pub(super) fn accepted(
+    pub(crate) fn accepted(
         &mut self,
         table: &Table,
         before: &Common,

@@ -50,7 +50,7 @@ impl Reached {
     }
 
     /// A record that was read and then refused.
-    pub(super) fn refused_round(
+    pub(crate) fn refused_round(
         &mut self,
         table: &Table,
         common: &Common,
