@@ -3,6 +3,7 @@
 //!
 //! ```text
 //! # What is wrong, in a sentence.
+//! demand 3
 //! file src/judge.rs
 //! old
 //! | the text that is replaced, which must stand there exactly once
@@ -10,18 +11,27 @@
 //! | the text in its place
 //! ```
 //!
-//! `wrong/` holds those that must be told. `alike/` holds changes of the text
-//! that change no answer, with the reason; these must not be told.
+//! `demand 3` stands where the mistake lets healthy nodes run jobs in two orders,
+//! or puts a healthy report in class 1 to 4: then whole cabinets must show it.
+//!
+//! `wrong/` holds those that must be told by sessions, and by the doors' trials
+//! too; `wrong-node/` those of a node, which no session shows. `alike/` holds
+//! changes of the text that change no answer, with the reason; these must not be
+//! told by sessions.
 
 use std::fs;
 use std::io;
 use std::path::{Path, PathBuf};
 use std::process::Command;
 
+const PARTS_NODES: &str = "demand 3";
+
 #[derive(Clone, Debug, PartialEq, Eq)]
 pub struct Edit {
     pub name: String,
     pub says: String,
+    /// Whether it breaks demand 3.
+    pub parts_nodes: bool,
     file: String,
     old: String,
     new: String,
@@ -31,7 +41,8 @@ impl Edit {
     pub fn parse(name: &str, text: &str) -> Result<Edit, String> {
         let (mut says, mut file, mut old, mut new) = (Vec::new(), None, Vec::new(), Vec::new());
         let mut part = "";
-        for line in text.lines() {
+        let parts_nodes = text.lines().any(|line| line == PARTS_NODES);
+        for line in text.lines().filter(|&line| line != PARTS_NODES) {
             match (line.strip_prefix("# "), line.strip_prefix("file "), line.strip_prefix('|')) {
                 (Some(sentence), _, _) => says.push(sentence),
                 (_, Some(path), _) if file.is_none() => file = Some(path),
@@ -45,12 +56,18 @@ impl Edit {
             Some(file) if !says.is_empty() && !old.is_empty() && !new.is_empty() => Ok(Edit {
                 name: name.to_string(),
                 says: says.join(" "),
+                parts_nodes,
                 file: file.to_string(),
                 old: old.join("\n"),
                 new: new.join("\n"),
             }),
             _ => Err(format!("{name}: a sentence, a file, the old text and the new text are needed")),
         }
+    }
+
+    /// Whether the mistake is in what a session does and prints, which no door shows.
+    pub fn of_session(&self) -> bool {
+        self.name.starts_with("session-")
     }
 
     /// The source with the mistake in it. An edit that fits nowhere, or in two
@@ -94,17 +111,7 @@ impl Copy {
     /// reference as it is, and says where it is.
     pub fn build(&self, edit: Option<&Edit>) -> Result<PathBuf, String> {
         self.write(edit)?;
-        let built = Command::new(std::env::var_os("CARGO").unwrap_or("cargo".into()))
-            .args(["build", "--offline", "--quiet", "--bin", "reference-session"])
-            .current_dir(&self.folder)
-            .env("CARGO_TARGET_DIR", "target")
-            .output()
-            .map_err(|error| format!("cargo: {error}"))?;
-        if !built.status.success() {
-            let name = edit.map_or("the reference", |edit| &edit.name);
-            return Err(format!("{name} does not build:\n{}", String::from_utf8_lossy(&built.stderr)));
-        }
-        Ok(self.folder.join("target/debug/reference-session"))
+        build(&self.folder, "reference-session", edit)
     }
 
     /// Writes the copy, with the edit in the one file that it names.
@@ -112,7 +119,9 @@ impl Copy {
         let tell = |error: io::Error| format!("{}: {error}", self.folder.display());
         fs::create_dir_all(self.folder.join("src")).map_err(tell)?;
         // A workspace of its own: the copy stands inside the folder of another.
+        // A name of its own: a program may hold the copy beside the original.
         let manifest = fs::read_to_string(self.original.join("Cargo.toml")).map_err(tell)?;
+        let manifest = manifest.replacen("name = \"reference\"", "name = \"wrong-reference\"", 1);
         fs::write(self.folder.join("Cargo.toml"), manifest + "\n[workspace]\n").map_err(tell)?;
         let mut applied = edit.is_none();
         for entry in fs::read_dir(self.original.join("src")).map_err(tell)? {
@@ -131,4 +140,76 @@ impl Copy {
             Err("the edit names no file of the reference".to_string())
         }
     }
+}
+
+/// The doors' trials with a wrong reference in the library's place: the program
+/// `trials-doors` over `doors/model`, which is compiled with the copy, while what
+/// it is compared with keeps the right one.
+pub struct WrongDoors {
+    copy: Copy,
+    trials: PathBuf,
+    folder: PathBuf,
+}
+
+const MANIFEST: &str = "\
+[package]
+name = \"wrong-doors\"
+version = \"0.1.0\"
+edition = \"2021\"
+
+[dependencies]
+trials = { path = \"../../../trials\" }
+reference = { path = \"../reference\", package = \"wrong-reference\" }
+
+[workspace]
+
+[profile.dev]
+opt-level = 1
+debug = false
+";
+
+/// The import is what `model` knows as `crate::doors`.
+const MAIN: &str = "\
+mod model;
+use trials::doors;
+
+fn main() -> std::process::ExitCode {
+    doors::program::main(&model::model)
+}
+";
+
+impl WrongDoors {
+    /// `folder` stands two folders below that of the workspace.
+    pub fn new(reference: &Path, trials: &Path, folder: &Path) -> WrongDoors {
+        let copy = Copy::new(reference, &folder.join("reference"));
+        WrongDoors { copy, trials: trials.to_path_buf(), folder: folder.join("doors") }
+    }
+
+    /// Builds the program, and says where it is.
+    pub fn build(&self, edit: Option<&Edit>) -> Result<PathBuf, String> {
+        self.copy.write(edit)?;
+        let tell = |error: io::Error| format!("{}: {error}", self.folder.display());
+        fs::create_dir_all(self.folder.join("src/model")).map_err(tell)?;
+        fs::write(self.folder.join("Cargo.toml"), MANIFEST).map_err(tell)?;
+        fs::write(self.folder.join("src/main.rs"), MAIN).map_err(tell)?;
+        for file in ["model.rs", "model/words.rs"] {
+            let original = self.trials.join("src/doors").join(file);
+            fs::copy(original, self.folder.join("src").join(file)).map_err(tell)?;
+        }
+        build(&self.folder, "wrong-doors", edit)
+    }
+}
+
+fn build(folder: &Path, program: &str, edit: Option<&Edit>) -> Result<PathBuf, String> {
+    let built = Command::new(std::env::var_os("CARGO").unwrap_or("cargo".into()))
+        .args(["build", "--offline", "--quiet", "--bin", program])
+        .current_dir(folder)
+        .env("CARGO_TARGET_DIR", "target")
+        .output()
+        .map_err(|error| format!("cargo: {error}"))?;
+    if !built.status.success() {
+        let name = edit.map_or("the reference", |edit| &edit.name);
+        return Err(format!("{name} does not build:\n{}", String::from_utf8_lossy(&built.stderr)));
+    }
+    Ok(folder.join("target/debug").join(program))
 }
