@@ -1,5 +1,5 @@
-//! The two sessions that are timed. Every record of both is closed by the
-//! reference while it is made, so none of them is refused.
+//! The rounds that are timed: two sessions, and one close on a full order. Every
+//! record is closed by the reference while it is made, so none is refused.
 
 use reference::judge::{class, judge};
 use reference::written::{push_number, record_bytes};
@@ -78,24 +78,53 @@ pub fn canal(rounds: u64) -> Vec<u8> {
 /// Rounds on a full order: 64 tasks, 256 jobs kept after each round, 15
 /// reports, one of them far ahead and over the bound.
 pub fn full(rounds: u64) -> Vec<u8> {
-    let task = Task { execution: 1000, distance: 5000, deadline: 5000, slack: 4000 };
-    let mut making = Making::new(15, 100, &[task; 64]);
+    let mut making = Making::crowd();
     for round in 0..rounds {
-        let r = 5000 * round.min(4) + 1000 * round.saturating_sub(4);
-        let mut record = Record { r, releases: Vec::new(), entries: vec![None; 15] };
-        if round >= 4 {
-            record.entries = (0..15).map(|node| Some(making.crowded(r, node))).collect();
-        }
-        let base = judge(&making.table, &making.common, &record).base;
-        let room = Common::PLACES - (making.common.length() - base) as usize;
-        record.releases = making.due(r, room);
+        let record = making.crowded_record(round);
         making.close(&record);
         assert!(round < 3 || making.common.jobs().len() == Common::PLACES, "the order is full");
     }
     making.bytes
 }
 
+/// A table, a common record with a full order, and the record that comes next.
+pub struct Full {
+    pub table: Table,
+    pub common: Common,
+    pub record: Record,
+}
+
+/// The full order after so many rounds.
+pub fn full_state(rounds: u64) -> Full {
+    let mut making = Making::crowd();
+    for round in 0..rounds {
+        let record = making.crowded_record(round);
+        making.close(&record);
+    }
+    let record = making.crowded_record(rounds);
+    Full { table: making.table, common: making.common, record }
+}
+
 impl Making {
+    /// 15 nodes and 64 tasks that come back soon.
+    fn crowd() -> Making {
+        let task = Task { execution: 1000, distance: 5000, deadline: 5000, slack: 4000 };
+        Making::new(15, 100, &[task; 64])
+    }
+
+    /// The record of a round, which fills the order again.
+    fn crowded_record(&self, round: u64) -> Record {
+        let r = 5000 * round.min(4) + 1000 * round.saturating_sub(4);
+        let mut record = Record { r, releases: Vec::new(), entries: vec![None; 15] };
+        if round >= 4 {
+            record.entries = (0..15).map(|node| Some(self.crowded(r, node))).collect();
+        }
+        let base = judge(&self.table, &self.common, &record).base;
+        let room = Common::PLACES - (self.common.length() - base) as usize;
+        record.releases = self.due(r, room);
+        record
+    }
+
     /// Fourteen nodes a few jobs past the base, and one that claims them all.
     fn crowded(&self, r: u64, node: u64) -> Report {
         match node {

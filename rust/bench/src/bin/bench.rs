@@ -1,14 +1,13 @@
 //! `bench`: times a session program and the reference in turn on the same two
 //! sessions, after it has seen that both print the same.
 
-mod machine;
-mod rounds;
-
 use std::env;
 use std::fs::{self, File};
 use std::path::{Path, PathBuf};
 use std::process::{Command, ExitCode, Stdio};
 use std::time::{Duration, Instant};
+
+use bench::{machine, rounds};
 
 const HELP: &str = "\
 bench PROGRAM [--reference PROGRAM] [--rounds N] [--times N]
