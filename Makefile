@@ -1,6 +1,8 @@
 # make test: the gate. make run: proves and builds what it needs, and runs the worked canal.
 # make trials, make trials-selftest and make bench are no part of the gate; the gate has a short run of the trials.
 .PHONY: test run trials trials-selftest bench rust session cabinet examples drill
+# make trials, make trials-doors, make trials-selftest and make bench are no part of the gate; the gate has a short run of the trials.
+.PHONY: test run trials trials-doors trials-selftest bench bench-doors rust session cabinet library examples
 
 test:
 	@./.ci/gate
@@ -15,13 +17,16 @@ rust:
 cabinet:
 	@rt staticlib cabinet
 
-# LIB: a folder with another libcabinet.a; then nothing is proved or built here but the examples.
+# LIB: a folder with another libcabinet.a; then nothing is proved, and what links the library takes that one.
 ifdef LIB
-examples:
+library:
 else
 LIB = target/staticlib
-examples: cabinet
+library: cabinet
 endif
+linked = CABINET_LIB_DIR=$(abspath $(LIB)) cargo build --quiet --offline --release --manifest-path rust/Cargo.toml --features doors
+
+examples: library
 	@tests/examples $(LIB)
 
 # SCRIPT: any file of drill commands.
@@ -40,8 +45,18 @@ TRIALS ?= --sessions 6000
 trials: session rust
 	@rust/target/release/trials --under target/bin/session $(TRIALS)
 
+# The library's functions beside the reference, and whole cabinets. For longer: make trials-doors DOORS='--seed 7 --scripts 100000 --steps 50000000'
+DOORS ?=
+trials-doors: library
+	@$(linked) -p trials --bin trials-doors
+	@rust/target/release/trials-doors $(DOORS)
+
 trials-selftest: rust
 	@cd rust && target/release/trials-selftest
 
-bench: session rust
+bench: session rust bench-doors
 	@cd rust && target/release/bench ../target/bin/session
+
+bench-doors: library
+	@$(linked) -p bench --bin bench-doors
+	@rust/target/release/bench-doors
