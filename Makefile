@@ -3,6 +3,7 @@
 .PHONY: test run trials trials-selftest bench rust session cabinet examples drill
 # make trials, make trials-doors, make trials-selftest and make bench are no part of the gate; the gate has a short run of the trials.
 .PHONY: test run trials trials-doors trials-selftest bench bench-doors rust session cabinet library examples
+.PHONY: test run trials trials-selftest bench rust session cabinet examples drill guide
 
 test:
 	@./.ci/gate
@@ -34,6 +35,10 @@ SCRIPT ?= examples/worked-canal.drill
 drill: cabinet
 	@cargo build --quiet --offline --release --manifest-path rust/Cargo.toml --package drill
 	@rust/target/release/drill --echo $(SCRIPT)
+
+# The guide's chapter on refusals, from rust/explain/refusals.txt.
+guide: rust
+	@rust/target/release/explain --guide docs/GUIDE.md
 
 # CANAL: any file of decimal numbers.
 CANAL ?= examples/worked-canal.txt
