@@ -2,7 +2,7 @@
 use mathlib.Core.Path.{_≡_, sym, _∙_}
 use mathlib.Core.List.{List}
 use Prim.Native.Nat.{ℕ}
-use Rattle.lines.specs.Text.{Front}
+use Rattle.lines.specs.Text.{Put, Front}
 
 -- one law for the three lines, since their contracts differ in the text alone
 module _ {s xs s′ t′ : List ℕ} {r q : ℕ} (e : Front s xs s′ r) (d : Front s xs t′ q) where
@@ -11,3 +11,11 @@ module _ {s xs s′ t′ : List ℕ} {r q : ℕ} (e : Front s xs s′ r) (d : Fr
 
   pub buffer-settled : s′ ≡ t′
   buffer-settled = e .content ∙ sym (d .content)
+
+-- and one for every text that is put from a place on
+module _ {s xs s′ t′ : List ℕ} {from r q : ℕ} (e : Put s from xs s′ r) (d : Put s from xs t′ q) where
+  pub put-settled : r ≡ q
+  put-settled = e .place ∙ sym (d .place)
+
+  pub put-buffer-settled : s′ ≡ t′
+  put-buffer-settled = e .content ∙ sym (d .content)

@@ -1,5 +1,6 @@
 -- Any two replies that a contract admits coincide, in the answer and in the node.
 use mathlib.Core.Path.{_≡_, sym, _∙_}
+use mathlib.Core.Bool.{Bool}
 use Prim.Native.Nat.{ℕ}
 use Rattle.rules.specs.Node as rules
 use Rattle.table.specs.Table.{tableOf}
@@ -12,7 +13,10 @@ use Rattle.node.specs.declared.Starting.{Starting}
 use Rattle.node.specs.declared.Finishing.{Finishing}
 use Rattle.node.specs.declared.Reporting.{Reporting}
 use Rattle.node.specs.declared.NodeClosing.{NodeClosing}
-use Rattle.node.specs.Node.{nodeOf, making, starting, finishing, reporting, node-closing}
+use Rattle.node.specs.declared.Check.{Check}
+use Rattle.node.specs.declared.Opening.{Opening}
+use Rattle.node.specs.Node as node
+use Rattle.node.specs.Node.{checkOf, clock-rule, beyond-lock-at, nodeOf, making, starting, finishing, reporting, node-closing}
 
 pub fresh-settled : (t : Table) (i : ℕ) {r s : Making} → r ≡ making (rules.fresh-node (tableOf t) i) → s ≡ making (rules.fresh-node (tableOf t) i) → r ≡ s
 fresh-settled t i e d = e ∙ sym d
@@ -31,3 +35,11 @@ report-settled t n time e d = e ∙ sym d
 pub close-settled : (t : Table) (n : Node) (q : Round) {r s : NodeClosing} → r ≡ node-closing n (rules.node-close (tableOf t) (nodeOf n) (roundOf q))
     → s ≡ node-closing n (rules.node-close (tableOf t) (nodeOf n) (roundOf q)) → r ≡ s
 close-settled t n q e d = e ∙ sym d
+
+pub clock-check-settled : (latest progress base now : ℕ) {r s : Check} → r ≡ checkOf (clock-rule latest progress base now)
+    → s ≡ checkOf (clock-rule latest progress base now) → r ≡ s
+clock-check-settled latest progress base now e d = e ∙ sym d
+
+pub beyond-lock-settled : (o : Opening) (offset position : ℕ) {r s : Bool} → r ≡ beyond-lock-at (node.roundOf o) offset position
+    → s ≡ beyond-lock-at (node.roundOf o) offset position → r ≡ s
+beyond-lock-settled o offset position e d = e ∙ sym d

@@ -1,10 +1,11 @@
--- What follows from the contract of a turn alone: the reply is one, the common record is again one that was given back, the classes are digits, the bytes
--- used lie within those lent, and 18 is told of few bytes only.
+-- What follows from the contracts alone. Of a turn: the reply is one, the common record is again one that was given back, the classes are digits, the bytes
+-- used lie within those lent, and 18 is told of few bytes only. Of a line that is gathered, and of the window: the reply is one, and so is what is left in
+-- everything lent.
 use mathlib.Core.Path.{_≡_, refl, sym, ap, subst, _∙_}
 use mathlib.Core.List.{List}
-use Prim.Native.Nat.{ℕ, _≤_, _<_}
+use Prim.Native.Nat.{ℕ, _-_, _≤_, _<_}
 use native.Mathlib.Omega.{arith}
-use lib.ListN.{length}
+use lib.ListN.{length, take, drop}
 use Rattle.rules.specs.Answer.{Answer, done, refused, refused-by}
 use Rattle.rules.specs.Judge as rules
 use Rattle.rules.specs.Close.{Closed, Verdict, close}
@@ -18,8 +19,11 @@ use Rattle.table.proofs.Facts.{checked-fit, ranges}
 use Rattle.common.specs.declared.Common.{Common}
 use Rattle.common.specs.Common.{commonOf, Given}
 use Rattle.common.proofs.Records.{given, numbers}
+use Rattle.laws.specs.Lists.{over}
+use Rattle.lines.specs.Text.{PutWithin}
 use Rattle.lines.specs.Lines.{Digits}
 use Rattle.lines.proofs.Classes.{verdict-digits}
+use Rattle.lines.proofs.Settled.{put-settled, put-buffer-settled}
 use Rattle.intake.proofs.Final.{Short}
 use Rattle.turn.specs.declared.TurnAnswer.{TurnAnswer}
 use Rattle.turn.specs.declared.TurnAnswer.the-variants as answer
@@ -112,3 +116,18 @@ given-countable g =
 pub turn-printable : (t : Table) (c : Common) (s : List ℕ) {r : Turn} → r ≡ turnRead c s (turn-of (tableOf t) (commonOf c) s) → Checked t → Given t c → r .answer ≡ answer.Closed → Printable (t .nodes) r
 turn-printable t c s p k g w =
     record { nodes-few = (ranges k) .nodes; digits = turn-digits t c s p k g w; counts = given-countable (turn-given t c s p k g) }
+
+-- one law for the three lines that are gathered, since their contracts differ in the text alone
+module _ {output xs output′ output″ : List ℕ} {at r q : ℕ} (e : PutWithin 8192 output at xs output′ r) (d : PutWithin 8192 output at xs output″ q) where
+  pub gathered-settled : r ≡ q
+  gathered-settled = put-settled (e .put) (d .put)
+
+  pub output-settled : output′ ≡ output″
+  output-settled = put-buffer-settled (e .put) (d .put)
+
+pub line-settled : (line xs : List ℕ) {r s : List ℕ} → r ≡ over xs line → s ≡ over xs line → r ≡ s
+line-settled line xs e d = e ∙ sym d
+
+pub shift-settled : (bytes : List ℕ) (from to : ℕ) {r s : List ℕ} → r ≡ over (take (to - from) (drop from bytes)) bytes
+    → s ≡ over (take (to - from) (drop from bytes)) bytes → r ≡ s
+shift-settled bytes from to e d = e ∙ sym d
