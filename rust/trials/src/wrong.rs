@@ -11,8 +11,9 @@
 //! | the text in its place
 //! ```
 //!
-//! `demand 3` stands where the mistake lets healthy nodes run jobs in two orders,
-//! or puts a healthy report in class 1 to 4: then whole cabinets must show it.
+//! `demand 3` stands where the mistake breaks it: what healthy nodes start is not
+//! the one order that the records give, or a healthy report comes into class 1 to
+//! 4. Then whole cabinets must show it.
 //!
 //! `wrong/` holds those that must be told by sessions, and by the doors' trials
 //! too; `wrong-node/` those of a node, which no session shows. `alike/` holds
@@ -24,14 +25,14 @@ use std::io;
 use std::path::{Path, PathBuf};
 use std::process::Command;
 
-const PARTS_NODES: &str = "demand 3";
+const BREAKS_DEMAND_3: &str = "demand 3";
 
 #[derive(Clone, Debug, PartialEq, Eq)]
 pub struct Edit {
     pub name: String,
     pub says: String,
     /// Whether it breaks demand 3.
-    pub parts_nodes: bool,
+    pub breaks_demand_3: bool,
     file: String,
     old: String,
     new: String,
@@ -41,8 +42,8 @@ impl Edit {
     pub fn parse(name: &str, text: &str) -> Result<Edit, String> {
         let (mut says, mut file, mut old, mut new) = (Vec::new(), None, Vec::new(), Vec::new());
         let mut part = "";
-        let parts_nodes = text.lines().any(|line| line == PARTS_NODES);
-        for line in text.lines().filter(|&line| line != PARTS_NODES) {
+        let breaks_demand_3 = text.lines().any(|line| line == BREAKS_DEMAND_3);
+        for line in text.lines().filter(|&line| line != BREAKS_DEMAND_3) {
             match (line.strip_prefix("# "), line.strip_prefix("file "), line.strip_prefix('|')) {
                 (Some(sentence), _, _) => says.push(sentence),
                 (_, Some(path), _) if file.is_none() => file = Some(path),
@@ -56,7 +57,7 @@ impl Edit {
             Some(file) if !says.is_empty() && !old.is_empty() && !new.is_empty() => Ok(Edit {
                 name: name.to_string(),
                 says: says.join(" "),
-                parts_nodes,
+                breaks_demand_3,
                 file: file.to_string(),
                 old: old.join("\n"),
                 new: new.join("\n"),

@@ -14,8 +14,8 @@ fn here(path: &str) -> PathBuf {
 fn every_edit_fits_the_reference_exactly_once() {
     let all = ["wrong", "wrong-node", "alike"].map(|folder| edits(&here(folder)).unwrap());
     assert!(all[0].len() >= 30 && all[1].len() >= 30 && !all[2].is_empty());
-    let parting = |edits: &[Edit]| edits.iter().filter(|edit| edit.parts_nodes).count();
-    assert!(parting(&all[0]) >= 10 && parting(&all[1]) >= 10 && parting(&all[2]) == 0);
+    let breaking = |edits: &[Edit]| edits.iter().filter(|edit| edit.breaks_demand_3).count();
+    assert!(breaking(&all[0]) >= 10 && breaking(&all[1]) >= 10 && breaking(&all[2]) == 0);
     let copy = Copy::new(&here("../reference"), &Path::new(env!("CARGO_TARGET_TMPDIR")).join("fitted"));
     for edit in all.iter().flatten() {
         copy.write(Some(edit)).unwrap();
@@ -29,10 +29,10 @@ fn an_edit_is_read_and_applied() {
     let edit = Edit::parse("name", TEXT).unwrap();
     assert_eq!((edit.name.as_str(), edit.says.as_str()), ("name", "It is wrong."));
     assert_eq!(edit.apply("zero one\n    two four").unwrap(), "zero three four");
-    assert!(!edit.parts_nodes);
-    let parting = Edit::parse("name", &TEXT.replace("file", "demand 3\nfile")).unwrap();
-    assert!(parting.parts_nodes);
-    assert_eq!(parting.apply("zero one\n    two four").unwrap(), "zero three four");
+    assert!(!edit.breaks_demand_3);
+    let breaking = Edit::parse("name", &TEXT.replace("file", "demand 3\nfile")).unwrap();
+    assert!(breaking.breaks_demand_3);
+    assert_eq!(breaking.apply("zero one\n    two four").unwrap(), "zero three four");
 }
 
 #[test]

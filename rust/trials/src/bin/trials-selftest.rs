@@ -118,7 +118,7 @@ fn by_doors(names: &[String]) -> Result<(), String> {
             Some(what) => println!("{}: {}\n    {what}", edit.name, edit.says),
             None => failed.push(format!("{} was not told by calls: {}", edit.name, edit.says)),
         }
-        if edit.parts_nodes {
+        if edit.breaks_demand_3 {
             match played(&program)? {
                 Some(what) if what.contains("demand 3 is broken") => println!("    {what}"),
                 other => failed.push(format!("{}: whole cabinets show no break: {other:?}", edit.name)),
