@@ -134,7 +134,8 @@ cabinet_reply cabinet_finish(const uint64_t *table, size_t table_words, uint64_t
 /* Report at the round time r. Refusals: 100, 101; 100, 102; 3, 4, 5, 11. */
 cabinet_report_reply cabinet_report(const uint64_t *table, size_t table_words, uint64_t *node, size_t node_words, uint64_t r);
 
-/* A node's close of a round record. Refusals: 100, 101; 100, 102; 100 (releases); 100, 103 (entries); 5, 12, 13, 3, 14, 15, 16, 17. */
+/* A node's close of a round record. Refusals: 100, 101; 100, 102; 100 (releases); 100, 103 (entries); 5, 12, 13, 3, 14, 15, 16, 17.
+ * (A node's own clock forestalls 3 and 14.) */
 cabinet_close_reply cabinet_close(const uint64_t *table, size_t table_words, uint64_t *node, size_t node_words, uint64_t r,
                                   const uint64_t *releases, size_t release_words, const uint64_t *entries, size_t entry_words);
 
@@ -164,7 +165,7 @@ cabinet_reply cabinet_write_number(uint8_t *bytes, size_t length, uint64_t numbe
  * 18, 19, 1, 2, which names no task here. */
 cabinet_reply cabinet_read_table(const uint8_t *bytes, size_t length, uint64_t *table, size_t table_words);
 
-/* The record at the first byte, into lent lists. Places past the counts stay. Refusals: 100 (releases, entries); 15, 18, 19, 20, 21 as met. */
+/* The record at the first byte, into lent lists. Places past the counts stay; behind the 0 of a missing entry stand zeros. Refusals: 100 (releases, entries); 15, 18, 19, 20, 21 as met. */
 cabinet_record_reply cabinet_read_record(const uint8_t *bytes, size_t length, uint64_t *releases, size_t release_words, uint64_t *entries,
                                          size_t entry_words);
 
