@@ -1,9 +1,6 @@
 # make test: the gate. make run: proves and builds what it needs, and runs the worked canal.
-# make trials, make trials-selftest and make bench are no part of the gate; the gate has a short run of the trials.
-.PHONY: test run trials trials-selftest bench rust session cabinet examples drill
 # make trials, make trials-doors, make trials-selftest and make bench are no part of the gate; the gate has a short run of the trials.
-.PHONY: test run trials trials-doors trials-selftest bench bench-doors rust session cabinet library examples
-.PHONY: test run trials trials-selftest bench rust session cabinet examples drill guide
+.PHONY: test run trials trials-doors trials-selftest bench bench-doors rust session cabinet library examples drill guide picture
 
 test:
 	@./.ci/gate
@@ -25,20 +22,32 @@ else
 LIB = target/staticlib
 library: cabinet
 endif
-linked = CABINET_LIB_DIR=$(abspath $(LIB)) cargo build --quiet --offline --release --manifest-path rust/Cargo.toml --features doors
+linked = CABINET_LIB_DIR=$(abspath $(LIB)) cargo build --quiet --offline --release --manifest-path rust/Cargo.toml
 
 examples: library
 	@tests/examples $(LIB)
 
 # SCRIPT: any file of drill commands.
 SCRIPT ?= examples/worked-canal.drill
-drill: cabinet
-	@cargo build --quiet --offline --release --manifest-path rust/Cargo.toml --package drill
+drill: library
+	@$(linked) -p drill
 	@rust/target/release/drill --echo $(SCRIPT)
 
 # The guide's chapter on refusals, from rust/explain/refusals.txt.
 guide: rust
 	@rust/target/release/explain --guide docs/GUIDE.md
+
+# The two pictures in docs/; or of CANAL, any file of decimal numbers, of drill commands (.drill) or of bytes, beside it.
+picture: library
+	@$(linked) -p picture
+ifeq ($(origin CANAL),command line)
+	@rust/target/release/picture $(CANAL) --to $(basename $(CANAL)).svg
+	@echo $(basename $(CANAL)).svg
+else
+	@rust/target/release/picture examples/worked-canal.drill --to docs/worked-canal.svg
+	@rust/target/release/picture examples/full-order.txt --to docs/full-order.svg
+	@echo docs/worked-canal.svg docs/full-order.svg
+endif
 
 # CANAL: any file of decimal numbers.
 CANAL ?= examples/worked-canal.txt
@@ -53,7 +62,7 @@ trials: session rust
 # The library's functions beside the reference, and whole cabinets. For longer: make trials-doors DOORS='--seed 7 --scripts 100000 --steps 50000000'
 DOORS ?=
 trials-doors: library
-	@$(linked) -p trials --bin trials-doors
+	@$(linked) -p trials --features doors --bin trials-doors
 	@rust/target/release/trials-doors $(DOORS)
 
 trials-selftest: rust
@@ -63,5 +72,5 @@ bench: session rust bench-doors
 	@cd rust && target/release/bench ../target/bin/session
 
 bench-doors: library
-	@$(linked) -p bench --bin bench-doors
+	@$(linked) -p bench --features doors --bin bench-doors
 	@rust/target/release/bench-doors
