@@ -2,8 +2,8 @@
 //! state before it, so that a command names only what is there.
 
 use cabinet::{Entry, Record, Release, Report, Task};
+use explain::explain;
 
-use crate::explain::explain;
 use crate::state::State;
 use crate::words::{without_comment, Fault, Word, Words};
 

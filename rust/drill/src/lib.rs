@@ -11,7 +11,6 @@
 mod command;
 mod drill;
 mod expect;
-mod explain;
 mod say;
 mod state;
 mod step;

@@ -3,9 +3,9 @@
 use std::rc::Rc;
 
 use cabinet::{Closing, Common, Refusal, Report};
+use explain::explain;
 
 use crate::command::Command;
-use crate::explain::explain;
 use crate::state::{Job, Plan, Seat, State};
 use crate::step::{Close, Reply, Short};
 use crate::COMMANDS;

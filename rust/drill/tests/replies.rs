@@ -49,7 +49,8 @@ fn a_finish_names_the_job_and_a_report_what_is_sent() {
 }
 
 /// Every refusal of document 01 that a step or a record can meet, by the
-/// shortest script. The text is the library wrapper's, and so is `explain`'s.
+/// shortest script. The text is the library wrapper's, and `explain` begins with
+/// it too.
 #[test]
 fn every_refusal_is_told_with_its_number_and_text() {
     let many = "gate 0, ".repeat(65);
@@ -72,8 +73,9 @@ fn every_refusal_is_told_with_its_number_and_text() {
     ] {
         let events = canal(&lines);
         assert_eq!(refusals(&last(&events).reply), [number], "{lines}");
-        let text = explain(number).unwrap().replacen("refusal", "refused", 1);
-        assert!(last(&events).said[0].contains(&text), "{:?} and not {text}", last(&events).said);
+        let explained = explain(number).unwrap();
+        let text = explained.split(" (").next().unwrap();
+        assert!(last(&events).said[0].contains(text), "{:?} and not {text}", last(&events).said);
     }
 }
 
@@ -232,7 +234,7 @@ fn the_questions_tell_the_state_and_change_nothing() {
         said[4],
         ["0 has started 1:gauge", "1 has started nothing", "2 has started nothing", "one order"]
     );
-    assert_eq!(said[5], ["refusal 9: the bound is broken"]);
+    assert_eq!(said[5], explain(9).unwrap().lines().collect::<Vec<_>>());
     assert_eq!(said[6].join("\n") + "\n", drill::COMMANDS);
     assert!(events[2..].iter().all(|event| event.reply == Reply::Question && event.after == events[1].after));
 }
@@ -259,6 +261,14 @@ fn an_event_holds_the_line_the_command_and_the_state_after() {
     let before = after(&events[events.len() - 2]);
     assert!(after(event).seats[1].node.running() && !before.seats[1].node.running());
     assert_eq!((&after(event).seats[0], &after(event).station), (&before.seats[0], &before.station));
+}
+
+#[test]
+fn explain_gives_the_four_lines() {
+    let lines = said("explain 9");
+    assert_eq!(lines.join("\n"), explain(9).unwrap());
+    let labels: Vec<&str> = lines.iter().map(|line| line.split(':').next().unwrap()).collect();
+    assert_eq!(labels, ["refused 9", "cause", "cure", "stays"]);
 }
 
 #[test]
