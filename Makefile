@@ -15,12 +15,14 @@ rust:
 cabinet:
 	@rt staticlib cabinet
 
-# LIB: a folder with another libcabinet.a; then nothing is proved, and what links the library takes that one.
+# What links the library has it proved where a crate has changed since. LIB: a folder with another libcabinet.a; then nothing is proved.
 ifdef LIB
 library:
 else
 LIB = target/staticlib
-library: cabinet
+library: target/staticlib/libcabinet.a
+target/staticlib/libcabinet.a: crates.txt $(shell find crates -name must-fail -prune -o -type f -print)
+	@rt staticlib cabinet
 endif
 linked = CABINET_LIB_DIR=$(abspath $(LIB)) cargo build --quiet --offline --release --manifest-path rust/Cargo.toml
 
