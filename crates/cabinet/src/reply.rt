@@ -4,7 +4,7 @@ ghost use mathlib.Core.List.{[]};
 ghost use Rattle.laws.specs.Tests.{if_then_else_};
 ghost use Rattle.cabinet.specs.Replies.{bit, no-close};
 
-// `value` is what the call was asked for: a task, a count, a time; beside refusals 2 and 9 it is the task that these name.
+// `value` is what the call was asked for: a task, a count, a time; beside refusals 2 and 9 it is the task that these name, but not where a table is read.
 #[repr(C)]
 pub struct Reply {
     pub refusal: u64,

@@ -12,14 +12,16 @@ refuse-requires c κs = search needs
 
 returns : tie.Need-returns
 returns c =
-    node-stopped (c .before .before .before .before .before .args .table .now) (c .before .before .before .before .before .args .node .now) (c .before .before .before .before .before .args .number) (c .before .before .table-in .ensures) (c .before .if1 .taken) (c .refuse .ensures)
+    let a = c .before .before .before .before .before .args in
+    node-stopped (a .table .now) (a .node .now) (a .number) (c .before .before .table-in .ensures) (c .before .if1 .taken) (c .refuse .ensures)
 
 refuse-requires-2 : tie.Need-refuse-requires-2
 refuse-requires-2 c κs = search needs
 
 returns-2 : tie.Need-returns-2
 returns-2 c =
-    node-unfit (c .before .before .before .before .before .before .args .table .now) (c .before .before .before .before .before .before .args .node .now) (c .before .before .before .before .before .before .args .number) (c .before .before .before .table-in .ensures) (c .before .before .if1 .left) (c .before .if2 .taken) (c .refuse2 .ensures)
+    let a = c .before .before .before .before .before .before .args in
+    node-unfit (a .table .now) (a .node .now) (a .number) (c .before .before .before .table-in .ensures) (c .before .before .if1 .left) (c .before .if2 .taken) (c .refuse2 .ensures)
 
 fresh-node-requires : tie.Need-fresh-node-requires
 fresh-node-requires c κs = search needs
@@ -41,14 +43,16 @@ accept-requires c κs = search needs
 
 returns-3 : tie.Need-returns-3
 returns-3 c =
-    node-refused (c .before .before .before .before .before .before .before .before .before .before .args .table .now) (c .before .before .before .before .before .before .before .before .before .before .args .node .now) (c .before .before .before .before .before .before .before .before .before .before .args .number) (c .before .before .before .before .before .before .before .table-in .ensures) (c .before .before .before .before .before .before .if1 .left) (c .before .before .before .before .before .if2 .left) (c .before .before .before .before .fresh-node .ensures) (c .before .before .answer .given .1) (c .refuse3 .ensures)
+    let a = c .before .before .before .before .before .before .before .before .before .before .args in
+    node-refused (a .table .now) (a .node .now) (a .number) (c .before .before .before .before .before .before .before .table-in .ensures) (c .before .before .before .before .before .before .if1 .left) (c .before .before .before .before .before .if2 .left) (c .before .before .before .before .fresh-node .ensures) (c .before .before .answer .given .1) (c .refuse3 .ensures)
 
 same-length : tie.Need-same-length
 same-length c = search needs
 
 returns-4 : tie.Need-returns-4
 returns-4 c =
-    node-made (c .before .before .before .before .before .before .before .before .before .before .before .before .before .args .table .now) (c .before .before .before .before .before .before .before .before .before .before .before .before .before .args .node .now) (c .before .before .before .before .before .before .before .before .before .before .before .before .before .args .number) (c .before .before .before .before .before .before .before .before .before .before .table-in .ensures) (c .before .before .before .before .before .before .before .before .before .if1 .left) (c .before .before .before .before .before .before .before .before .if2 .left) (c .before .before .before .before .before .before .before .fresh-node .ensures) (c .before .before .before .before .before .enum-told .given .1) (c .before .before .before .put-node .ensures) (c .accept .ensures)
+    let a = c .before .before .before .before .before .before .before .before .before .before .before .before .before .args in
+    node-made (a .table .now) (a .node .now) (a .number) (c .before .before .before .before .before .before .before .before .before .before .table-in .ensures) (c .before .before .before .before .before .before .before .before .before .if1 .left) (c .before .before .before .before .before .before .before .before .if2 .left) (c .before .before .before .before .before .before .before .fresh-node .ensures) (c .before .before .before .before .before .enum-told .given .1) (c .before .before .before .put-node .ensures) (c .accept .ensures)
 
 pub cabinet-fresh-node-spec : {M : Type 1} → statement M
 cabinet-fresh-node-spec =

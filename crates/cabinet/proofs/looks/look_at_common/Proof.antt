@@ -12,7 +12,8 @@ fresh-requires c κs = search needs
 
 returns : tie.Need-returns
 returns c =
-    no-common (c .before .before .before .before .before .before .args .table .now) (c .before .before .before .before .before .before .args .common .now) (c .before .before .before .table-in .ensures) (c .before .if1 .taken) _
+    let a = c .before .before .before .before .before .before .args in
+    no-common (a .table .now) (a .common .now) (c .before .before .before .table-in .ensures) (c .before .if1 .taken) _
 
 common-in-requires : tie.Need-common-in-requires
 common-in-requires c κs =
@@ -20,7 +21,8 @@ common-in-requires c κs =
 
 returns-2 : tie.Need-returns-2
 returns-2 c =
-    some-common (c .before .before .before .before .before .before .before .args .table .now) (c .before .before .before .before .before .before .before .args .common .now) (c .before .before .before .before .table-in .ensures) (c .before .before .if1 .left) (c .before .common-in .ensures)
+    let a = c .before .before .before .before .before .before .before .args in
+    some-common (a .table .now) (a .common .now) (c .before .before .before .before .table-in .ensures) (c .before .before .if1 .left) (c .before .common-in .ensures)
 
 pub look-at-common-spec : {M : Type 1} → statement M
 look-at-common-spec =

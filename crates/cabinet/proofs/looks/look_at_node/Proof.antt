@@ -12,7 +12,8 @@ fresh-node-requires c κs = search needs
 
 returns : tie.Need-returns
 returns c =
-    no-node (c .before .before .before .before .before .before .before .args .table .now) (c .before .before .before .before .before .before .before .args .node .now) (c .before .before .before .before .table-in .ensures) (c .before .before .if1 .taken) _
+    let a = c .before .before .before .before .before .before .before .args in
+    no-node (a .table .now) (a .node .now) (c .before .before .before .before .table-in .ensures) (c .before .before .if1 .taken) _
 
 node-in-requires : tie.Need-node-in-requires
 node-in-requires c κs =
@@ -20,7 +21,8 @@ node-in-requires c κs =
 
 returns-2 : tie.Need-returns-2
 returns-2 c =
-    some-node (c .before .before .before .before .before .before .before .args .table .now) (c .before .before .before .before .before .before .before .args .node .now) (c .before .before .before .before .table-in .ensures) (c .before .before .if1 .left) (c .before .node-in .ensures)
+    let a = c .before .before .before .before .before .before .before .args in
+    some-node (a .table .now) (a .node .now) (c .before .before .before .before .table-in .ensures) (c .before .before .if1 .left) (c .before .node-in .ensures)
 
 pub look-at-node-spec : {M : Type 1} → statement M
 look-at-node-spec =

@@ -15,7 +15,8 @@ same-length c = search needs
 
 returns : tie.Need-returns
 returns c =
-    close-stopped (c .before .before .before .before .before .before .before .before .args .table .now) (c .before .before .before .before .before .before .before .before .args .node .now) (c .before .before .before .before .before .before .before .before .args .r) (c .before .before .before .before .before .before .before .before .args .releases .now) (c .before .before .before .before .before .before .before .before .args .entries .now) (c .before .before .look-at-node .ensures) (c .before .if1 .taken) (c .refuse-close .ensures)
+    let a = c .before .before .before .before .before .before .before .before .args in
+    close-stopped (a .table .now) (a .node .now) (a .r) (a .releases .now) (a .entries .now) (c .before .before .look-at-node .ensures) (c .before .if1 .taken) (c .refuse-close .ensures)
 
 round-in-requires : tie.Need-round-in-requires
 round-in-requires c κs = search needs
@@ -28,11 +29,13 @@ same-length-2 c = search needs
 
 returns-2 : tie.Need-returns-2
 returns-2 c =
-    close-unlisted (c .before .before .before .before .before .before .before .before .before .before .args .table .now) (c .before .before .before .before .before .before .before .before .before .before .args .node .now) (c .before .before .before .before .before .before .before .before .before .before .args .r) (c .before .before .before .before .before .before .before .before .before .before .args .releases .now) (c .before .before .before .before .before .before .before .before .before .before .args .entries .now) (c .before .before .before .before .look-at-node .ensures) (c .before .before .before .if1 .left) (c .before .before .round-in .ensures) (c .before .if2 .taken) (c .refuse-close2 .ensures)
+    let a = c .before .before .before .before .before .before .before .before .before .before .args in
+    close-unlisted (a .table .now) (a .node .now) (a .r) (a .releases .now) (a .entries .now) (c .before .before .before .before .look-at-node .ensures) (c .before .before .before .if1 .left) (c .before .before .round-in .ensures) (c .before .if2 .taken) (c .refuse-close2 .ensures)
 
 close-node-requires : tie.Need-close-node-requires
 close-node-requires c κs =
-    held-asked (c .before .before .before .before .before .before .before .before .before .args .table .now) (c .before .before .before .before .before .before .before .before .before .args .node .now) (c .before .before .before .look-at-node .ensures) (c .before .before .if1 .left)
+    let a = c .before .before .before .before .before .before .before .before .before .args in
+    held-asked (a .table .now) (a .node .now) (c .before .before .before .look-at-node .ensures) (c .before .before .if1 .left)
 
 enum-known-outcome : tie.Need-enum-known-outcome
 enum-known-outcome c = search needs
@@ -45,7 +48,8 @@ enum-told c = search needs
 
 put-node-requires : tie.Need-put-node-requires
 put-node-requires c κs =
-    held-room (c .before .before .before .before .before .before .before .before .before .before .before .before .before .args .table .now) (c .before .before .before .before .before .before .before .before .before .before .before .before .before .args .node .now) (c .before .before .before .before .before .before .before .look-at-node .ensures) (c .before .before .before .before .before .before .if1 .left)
+    let a = c .before .before .before .before .before .before .before .before .before .before .before .before .before .args in
+    held-room (a .table .now) (a .node .now) (c .before .before .before .before .before .before .before .look-at-node .ensures) (c .before .before .before .before .before .before .if1 .left)
 
 bit-requires : tie.Need-bit-requires
 bit-requires c κs = search needs
@@ -58,14 +62,16 @@ same-length-3 c = search needs
 
 returns-3 : tie.Need-returns-3
 returns-3 c =
-    close-refused (c .before .before .before .before .before .before .before .before .before .before .before .before .before .before .args .table .now) (c .before .before .before .before .before .before .before .before .before .before .before .before .before .before .args .node .now) (c .before .before .before .before .before .before .before .before .before .before .before .before .before .before .args .r) (c .before .before .before .before .before .before .before .before .before .before .before .before .before .before .args .releases .now) (c .before .before .before .before .before .before .before .before .before .before .before .before .before .before .args .entries .now) (c .before .before .before .before .before .before .before .before .look-at-node .ensures) (c .before .before .before .before .before .before .before .if1 .left) (c .before .before .before .before .before .before .round-in .ensures) (c .before .before .before .before .before .if2 .left) (c .before .before .before .before .close-node .ensures) (c .before .before .outcome .given .1) (c .refuse-close3 .ensures)
+    let a = c .before .before .before .before .before .before .before .before .before .before .before .before .before .before .args in
+    close-refused (a .table .now) (a .node .now) (a .r) (a .releases .now) (a .entries .now) (c .before .before .before .before .before .before .before .before .look-at-node .ensures) (c .before .before .before .before .before .before .before .if1 .left) (c .before .before .before .before .before .before .round-in .ensures) (c .before .before .before .before .before .if2 .left) (c .before .before .before .before .close-node .ensures) (c .before .before .outcome .given .1) (c .refuse-close3 .ensures)
 
 same-length-4 : tie.Need-same-length-4
 same-length-4 c = search needs
 
 returns-4 : tie.Need-returns-4
 returns-4 c =
-    close-closed (c .before .before .before .before .before .before .before .before .before .before .before .before .before .before .before .before .before .before .before .args .table .now) (c .before .before .before .before .before .before .before .before .before .before .before .before .before .before .before .before .before .before .before .args .node .now) (c .before .before .before .before .before .before .before .before .before .before .before .before .before .before .before .before .before .before .before .args .r) (c .before .before .before .before .before .before .before .before .before .before .before .before .before .before .before .before .before .before .before .args .releases .now) (c .before .before .before .before .before .before .before .before .before .before .before .before .before .before .before .before .before .before .before .args .entries .now) (c .before .before .before .before .before .before .before .before .before .before .before .before .before .look-at-node .ensures) (c .before .before .before .before .before .before .before .before .before .before .before .before .if1 .left) (c .before .before .before .before .before .before .before .before .before .before .before .round-in .ensures) (c .before .before .before .before .before .before .before .before .before .before .if2 .left) (c .before .before .before .before .before .before .before .before .before .close-node .ensures) (c .before .before .before .before .before .before .before .enum-told .given .1) (c .before .before .bit .ensures) (c .before .bit2 .ensures) (c .before .before .before .before .before .put-node .ensures)
+    let a = c .before .before .before .before .before .before .before .before .before .before .before .before .before .before .before .before .before .before .before .args in
+    close-closed (a .table .now) (a .node .now) (a .r) (a .releases .now) (a .entries .now) (c .before .before .before .before .before .before .before .before .before .before .before .before .before .look-at-node .ensures) (c .before .before .before .before .before .before .before .before .before .before .before .before .if1 .left) (c .before .before .before .before .before .before .before .before .before .before .before .round-in .ensures) (c .before .before .before .before .before .before .before .before .before .before .if2 .left) (c .before .before .before .before .before .before .before .before .before .close-node .ensures) (c .before .before .before .before .before .before .before .enum-told .given .1) (c .before .before .bit .ensures) (c .before .bit2 .ensures) (c .before .before .before .before .before .put-node .ensures)
 
 pub cabinet-close-spec : {M : Type 1} → statement M
 cabinet-close-spec =

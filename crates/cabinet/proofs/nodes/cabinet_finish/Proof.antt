@@ -15,18 +15,21 @@ same-length c = search needs
 
 returns : tie.Need-returns
 returns c =
-    finish-stopped (c .before .before .before .before .before .before .args .table .now) (c .before .before .before .before .before .before .args .node .now) (c .before .before .before .before .before .before .args .time) (c .before .before .look-at-node .ensures) (c .before .if1 .taken) (c .refuse .ensures)
+    let a = c .before .before .before .before .before .before .args in
+    finish-stopped (a .table .now) (a .node .now) (a .time) (c .before .before .look-at-node .ensures) (c .before .if1 .taken) (c .refuse .ensures)
 
 finish-node-requires : tie.Need-finish-node-requires
 finish-node-requires c κs =
-    held-ours (c .before .before .before .before .before .args .table .now) (c .before .before .before .before .before .args .node .now) (c .before .look-at-node .ensures) (c .if1 .left)
+    let a = c .before .before .before .before .before .args in
+    held-ours (a .table .now) (a .node .now) (c .before .look-at-node .ensures) (c .if1 .left)
 
 enum-told : tie.Need-enum-told
 enum-told c = search needs
 
 put-node-requires : tie.Need-put-node-requires
 put-node-requires c κs =
-    held-room (c .before .before .before .before .before .before .before .before .before .args .table .now) (c .before .before .before .before .before .before .before .before .before .args .node .now) (c .before .before .before .before .before .look-at-node .ensures) (c .before .before .before .before .if1 .left)
+    let a = c .before .before .before .before .before .before .before .before .before .args in
+    held-room (a .table .now) (a .node .now) (c .before .before .before .before .before .look-at-node .ensures) (c .before .before .before .before .if1 .left)
 
 accept-requires : tie.Need-accept-requires
 accept-requires c κs = search needs
@@ -42,14 +45,16 @@ same-length-2 c = search needs
 
 returns-2 : tie.Need-returns-2
 returns-2 c =
-    finish-done (c .before .before .before .before .before .before .before .before .before .before .before .before .before .args .table .now) (c .before .before .before .before .before .before .before .before .before .before .before .before .before .args .node .now) (c .before .before .before .before .before .before .before .before .before .before .before .before .before .args .time) (c .before .before .before .before .before .before .before .before .before .look-at-node .ensures) (c .before .before .before .before .before .before .before .before .if1 .left) (c .before .before .before .before .before .before .before .finish-node .ensures) (c .before .before .before .before .before .enum-told .given .1) (c .accept .ensures) (c .before .before .before .put-node .ensures)
+    let a = c .before .before .before .before .before .before .before .before .before .before .before .before .before .args in
+    finish-done (a .table .now) (a .node .now) (a .time) (c .before .before .before .before .before .before .before .before .before .look-at-node .ensures) (c .before .before .before .before .before .before .before .before .if1 .left) (c .before .before .before .before .before .before .before .finish-node .ensures) (c .before .before .before .before .before .enum-told .given .1) (c .accept .ensures) (c .before .before .before .put-node .ensures)
 
 same-length-3 : tie.Need-same-length-3
 same-length-3 c = search needs
 
 returns-3 : tie.Need-returns-3
 returns-3 c =
-    finish-refused (c .before .before .before .before .before .before .before .before .before .before .args .table .now) (c .before .before .before .before .before .before .before .before .before .before .args .node .now) (c .before .before .before .before .before .before .before .before .before .before .args .time) (c .before .before .before .before .before .before .look-at-node .ensures) (c .before .before .before .before .before .if1 .left) (c .before .before .before .before .finish-node .ensures) (c .before .before .answer .given .1) (c .refuse2 .ensures)
+    let a = c .before .before .before .before .before .before .before .before .before .before .args in
+    finish-refused (a .table .now) (a .node .now) (a .time) (c .before .before .before .before .before .before .look-at-node .ensures) (c .before .before .before .before .before .if1 .left) (c .before .before .before .before .finish-node .ensures) (c .before .before .answer .given .1) (c .refuse2 .ensures)
 
 pub cabinet-finish-spec : {M : Type 1} → statement M
 cabinet-finish-spec =

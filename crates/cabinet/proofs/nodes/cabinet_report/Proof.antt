@@ -15,11 +15,13 @@ same-length c = search needs
 
 returns : tie.Need-returns
 returns c =
-    report-stopped (c .before .before .before .before .before .before .args .table .now) (c .before .before .before .before .before .before .args .node .now) (c .before .before .before .before .before .before .args .r) (c .before .before .look-at-node .ensures) (c .before .if1 .taken) (c .no-report .ensures)
+    let a = c .before .before .before .before .before .before .args in
+    report-stopped (a .table .now) (a .node .now) (a .r) (c .before .before .look-at-node .ensures) (c .before .if1 .taken) (c .no-report .ensures)
 
 report-node-requires : tie.Need-report-node-requires
 report-node-requires c κs =
-    held-asked (c .before .before .before .before .before .args .table .now) (c .before .before .before .before .before .args .node .now) (c .before .look-at-node .ensures) (c .if1 .left)
+    let a = c .before .before .before .before .before .args in
+    held-asked (a .table .now) (a .node .now) (c .before .look-at-node .ensures) (c .if1 .left)
 
 enum-known-answer : tie.Need-enum-known-answer
 enum-known-answer c = search needs
@@ -32,21 +34,24 @@ enum-known-answer-2 c = search needs
 
 put-node-requires : tie.Need-put-node-requires
 put-node-requires c κs =
-    held-room (c .before .before .before .before .before .before .before .before .before .before .args .table .now) (c .before .before .before .before .before .before .before .before .before .before .args .node .now) (c .before .before .before .before .before .before .look-at-node .ensures) (c .before .before .before .before .before .if1 .left)
+    let a = c .before .before .before .before .before .before .before .before .before .before .args in
+    held-room (a .table .now) (a .node .now) (c .before .before .before .before .before .before .look-at-node .ensures) (c .before .before .before .before .before .if1 .left)
 
 same-length-2 : tie.Need-same-length-2
 same-length-2 c = search needs
 
 returns-2 : tie.Need-returns-2
 returns-2 c =
-    report-refused (c .before .before .before .before .before .before .before .before .before .before .args .table .now) (c .before .before .before .before .before .before .before .before .before .before .args .node .now) (c .before .before .before .before .before .before .before .before .before .before .args .r) (c .before .before .before .before .before .before .look-at-node .ensures) (c .before .before .before .before .before .if1 .left) (c .before .before .before .before .report-node .ensures) (c .before .before .answer .given .1) (c .no-report2 .ensures)
+    let a = c .before .before .before .before .before .before .before .before .before .before .args in
+    report-refused (a .table .now) (a .node .now) (a .r) (c .before .before .before .before .before .before .look-at-node .ensures) (c .before .before .before .before .before .if1 .left) (c .before .before .before .before .report-node .ensures) (c .before .before .answer .given .1) (c .no-report2 .ensures)
 
 same-length-3 : tie.Need-same-length-3
 same-length-3 c = search needs
 
 returns-3 : tie.Need-returns-3
 returns-3 c =
-    report-sends (c .before .before .before .before .before .before .before .before .before .before .before .before .before .args .table .now) (c .before .before .before .before .before .before .before .before .before .before .before .before .before .args .node .now) (c .before .before .before .before .before .before .before .before .before .before .before .before .before .args .r) (c .before .before .before .before .before .before .before .before .before .look-at-node .ensures) (c .before .before .before .before .before .before .before .before .if1 .left) (c .before .before .before .before .before .before .before .report-node .ensures) (c .before .before .before .before .before .answer2 .given .1) (c .before .before .put-node .ensures)
+    let a = c .before .before .before .before .before .before .before .before .before .before .before .before .before .args in
+    report-sends (a .table .now) (a .node .now) (a .r) (c .before .before .before .before .before .before .before .before .before .look-at-node .ensures) (c .before .before .before .before .before .before .before .before .if1 .left) (c .before .before .before .before .before .before .before .report-node .ensures) (c .before .before .before .before .before .answer2 .given .1) (c .before .before .put-node .ensures)
 
 pub cabinet-report-spec : {M : Type 1} → statement M
 cabinet-report-spec =

@@ -15,18 +15,21 @@ same-length c = search needs
 
 returns : tie.Need-returns
 returns c =
-    start-stopped (c .before .before .before .before .before .before .args .table .now) (c .before .before .before .before .before .before .args .node .now) (c .before .before .before .before .before .before .args .time) (c .before .before .look-at-node .ensures) (c .before .if1 .taken) (c .refuse .ensures)
+    let a = c .before .before .before .before .before .before .args in
+    start-stopped (a .table .now) (a .node .now) (a .time) (c .before .before .look-at-node .ensures) (c .before .if1 .taken) (c .refuse .ensures)
 
 start-node-requires : tie.Need-start-node-requires
 start-node-requires c κs =
-    held-asked (c .before .before .before .before .before .args .table .now) (c .before .before .before .before .before .args .node .now) (c .before .look-at-node .ensures) (c .if1 .left)
+    let a = c .before .before .before .before .before .args in
+    held-asked (a .table .now) (a .node .now) (c .before .look-at-node .ensures) (c .if1 .left)
 
 enum-known-answer : tie.Need-enum-known-answer
 enum-known-answer c = search needs
 
 put-node-requires : tie.Need-put-node-requires
 put-node-requires c κs =
-    held-room (c .before .before .before .before .before .before .before .before .before .before .args .table .now) (c .before .before .before .before .before .before .before .before .before .before .args .node .now) (c .before .before .before .before .before .before .look-at-node .ensures) (c .before .before .before .before .before .if1 .left)
+    let a = c .before .before .before .before .before .before .before .before .before .before .args in
+    held-room (a .table .now) (a .node .now) (c .before .before .before .before .before .before .look-at-node .ensures) (c .before .before .before .before .before .if1 .left)
 
 accept-requires : tie.Need-accept-requires
 accept-requires c κs = search needs
@@ -45,21 +48,24 @@ same-length-2 c = search needs
 
 returns-2 : tie.Need-returns-2
 returns-2 c =
-    start-starts (c .before .before .before .before .before .before .before .before .before .before .before .before .before .before .args .table .now) (c .before .before .before .before .before .before .before .before .before .before .before .before .before .before .args .node .now) (c .before .before .before .before .before .before .before .before .before .before .before .before .before .before .args .time) (c .before .before .before .before .before .before .before .before .before .before .look-at-node .ensures) (c .before .before .before .before .before .before .before .before .before .if1 .left) (c .before .before .before .before .before .before .before .before .start-node .ensures) (c .before .before .before .before .before .before .answer .given .1) (c .accept .ensures) (c .before .before .before .put-node .ensures)
+    let a = c .before .before .before .before .before .before .before .before .before .before .before .before .before .before .args in
+    start-starts (a .table .now) (a .node .now) (a .time) (c .before .before .before .before .before .before .before .before .before .before .look-at-node .ensures) (c .before .before .before .before .before .before .before .before .before .if1 .left) (c .before .before .before .before .before .before .before .before .start-node .ensures) (c .before .before .before .before .before .before .answer .given .1) (c .accept .ensures) (c .before .before .before .put-node .ensures)
 
 same-length-3 : tie.Need-same-length-3
 same-length-3 c = search needs
 
 returns-3 : tie.Need-returns-3
 returns-3 c =
-    start-refused (c .before .before .before .before .before .before .before .before .before .before .args .table .now) (c .before .before .before .before .before .before .before .before .before .before .args .node .now) (c .before .before .before .before .before .before .before .before .before .before .args .time) (c .before .before .before .before .before .before .look-at-node .ensures) (c .before .before .before .before .before .if1 .left) (c .before .before .before .before .start-node .ensures) (c .before .before .answer2 .given .1) (c .refuse2 .ensures)
+    let a = c .before .before .before .before .before .before .before .before .before .before .args in
+    start-refused (a .table .now) (a .node .now) (a .time) (c .before .before .before .before .before .before .look-at-node .ensures) (c .before .before .before .before .before .if1 .left) (c .before .before .before .before .start-node .ensures) (c .before .before .answer2 .given .1) (c .refuse2 .ensures)
 
 same-length-4 : tie.Need-same-length-4
 same-length-4 c = search needs
 
 returns-4 : tie.Need-returns-4
 returns-4 c =
-    start-waits (c .before .before .before .before .before .before .before .before .before .args .table .now) (c .before .before .before .before .before .before .before .before .before .args .node .now) (c .before .before .before .before .before .before .before .before .before .args .time) (c .before .before .before .before .before .look-at-node .ensures) (c .before .before .before .before .if1 .left) (c .before .before .before .start-node .ensures) (c .before .answer3 .given .1)
+    let a = c .before .before .before .before .before .before .before .before .before .args in
+    start-waits (a .table .now) (a .node .now) (a .time) (c .before .before .before .before .before .look-at-node .ensures) (c .before .before .before .before .if1 .left) (c .before .before .before .start-node .ensures) (c .before .answer3 .given .1)
 
 pub cabinet-start-spec : {M : Type 1} → statement M
 cabinet-start-spec =

@@ -9,14 +9,16 @@ no-record-requires c κs = search needs
 
 returns : tie.Need-returns
 returns c =
-    releases-unfit (c .before .before .before .before .before .args .bytes .now) (c .before .before .before .before .before .args .releases .now) (c .before .before .before .before .before .args .entries .now) (c .before .if1 .taken) (c .no-record .ensures)
+    let a = c .before .before .before .before .before .args in
+    releases-unfit (a .bytes .now) (a .releases .now) (a .entries .now) (c .before .if1 .taken) (c .no-record .ensures)
 
 no-record-requires-2 : tie.Need-no-record-requires-2
 no-record-requires-2 c κs = search needs
 
 returns-2 : tie.Need-returns-2
 returns-2 c =
-    entries-unfit (c .before .before .before .before .before .before .args .bytes .now) (c .before .before .before .before .before .before .args .releases .now) (c .before .before .before .before .before .before .args .entries .now) (c .before .before .if1 .left) (c .before .if2 .taken) (c .no-record2 .ensures)
+    let a = c .before .before .before .before .before .before .args in
+    entries-unfit (a .bytes .now) (a .releases .now) (a .entries .now) (c .before .before .if1 .left) (c .before .if2 .taken) (c .no-record2 .ensures)
 
 read-within-requires : tie.Need-read-within-requires
 read-within-requires c κs = search needs
@@ -32,15 +34,18 @@ enum-told c = search needs
 
 put-releases-requires : tie.Need-put-releases-requires
 put-releases-requires c κs =
-    releases-fit (c .before .before .before .before .before .before .before .before .before .before .args .bytes .now) (c .before .before .before .before .before .before .before .before .before .before .args .releases .now) (c .before .before .before .before .before .before .before .before .before .before .args .entries .now) (c .before .before .before .before .before .before .if1 .left) (c .before .before .before .before .before .if2 .left) (c .before .before .before .before .read-within .ensures) (c .before .before .enum-told .given .1)
+    let a = c .before .before .before .before .before .before .before .before .before .before .args in
+    releases-fit (a .bytes .now) (a .releases .now) (a .entries .now) (c .before .before .before .before .before .before .if1 .left) (c .before .before .before .before .before .if2 .left) (c .before .before .before .before .read-within .ensures) (c .before .before .enum-told .given .1)
 
 put-entries-requires : tie.Need-put-entries-requires
 put-entries-requires c κs =
-    entries-fit (c .before .before .before .before .before .before .before .before .before .before .before .before .before .before .args .bytes .now) (c .before .before .before .before .before .before .before .before .before .before .before .before .before .before .args .releases .now) (c .before .before .before .before .before .before .before .before .before .before .before .before .before .before .args .entries .now) (c .before .before .before .before .before .before .before .before .before .before .if1 .left) (c .before .before .before .before .before .before .before .before .before .if2 .left) (c .before .before .before .before .before .before .before .before .read-within .ensures) (c .before .before .before .before .before .before .enum-told .given .1)
+    let a = c .before .before .before .before .before .before .before .before .before .before .before .before .before .before .args in
+    entries-fit (a .bytes .now) (a .releases .now) (a .entries .now) (c .before .before .before .before .before .before .before .before .before .before .if1 .left) (c .before .before .before .before .before .before .before .before .before .if2 .left) (c .before .before .before .before .before .before .before .before .read-within .ensures) (c .before .before .before .before .before .before .enum-told .given .1)
 
 returns-3 : tie.Need-returns-3
 returns-3 c =
-    record-not-read (c .before .before .before .before .before .before .before .before .before .before .args .bytes .now) (c .before .before .before .before .before .before .before .before .before .before .args .releases .now) (c .before .before .before .before .before .before .before .before .before .before .args .entries .now) (c .before .before .before .before .before .before .if1 .left) (c .before .before .before .before .before .if2 .left) (c .before .before .before .before .read-within .ensures) (c .before .before .answer .given .1) (c .no-record3 .ensures)
+    let a = c .before .before .before .before .before .before .before .before .before .before .args in
+    record-not-read (a .bytes .now) (a .releases .now) (a .entries .now) (c .before .before .before .before .before .before .if1 .left) (c .before .before .before .before .before .if2 .left) (c .before .before .before .before .read-within .ensures) (c .before .before .answer .given .1) (c .no-record3 .ensures)
 
 same-length : tie.Need-same-length
 same-length c = search needs
@@ -50,7 +55,8 @@ same-length-2 c = search needs
 
 returns-4 : tie.Need-returns-4
 returns-4 c =
-    record-was-read (c .before .before .before .before .before .before .before .before .before .before .before .before .before .before .before .before .before .args .bytes .now) (c .before .before .before .before .before .before .before .before .before .before .before .before .before .before .before .before .before .args .releases .now) (c .before .before .before .before .before .before .before .before .before .before .before .before .before .before .before .before .before .args .entries .now) (c .before .before .before .before .before .before .before .before .before .before .before .before .before .if1 .left) (c .before .before .before .before .before .before .before .before .before .before .before .before .if2 .left) (c .before .before .before .before .before .before .before .before .before .before .before .read-within .ensures) (c .before .before .before .before .before .before .before .before .before .enum-told .given .1) (c .before .before .before .before .before .before .put-releases .ensures) (c .before .before .put-entries .ensures)
+    let a = c .before .before .before .before .before .before .before .before .before .before .before .before .before .before .before .before .before .args in
+    record-was-read (a .bytes .now) (a .releases .now) (a .entries .now) (c .before .before .before .before .before .before .before .before .before .before .before .before .before .if1 .left) (c .before .before .before .before .before .before .before .before .before .before .before .before .if2 .left) (c .before .before .before .before .before .before .before .before .before .before .before .read-within .ensures) (c .before .before .before .before .before .before .before .before .before .enum-told .given .1) (c .before .before .before .before .before .before .put-releases .ensures) (c .before .before .put-entries .ensures)
 
 pub cabinet-read-record-spec : {M : Type 1} → statement M
 cabinet-read-record-spec =

@@ -9,7 +9,8 @@ refuse-requires c κs = search needs
 
 returns : tie.Need-returns
 returns c =
-    table-unfit (c .before .before .before .before .args .bytes .now) (c .before .before .before .before .args .table .now) (c .before .if1 .taken) (c .refuse .ensures)
+    let a = c .before .before .before .before .args in
+    table-unfit (a .bytes .now) (a .table .now) (c .before .if1 .taken) (c .refuse .ensures)
 
 read-table-requires : tie.Need-read-table-requires
 read-table-requires c κs = search needs
@@ -31,14 +32,16 @@ accept-requires c κs = search needs
 
 returns-2 : tie.Need-returns-2
 returns-2 c =
-    table-not-read (c .before .before .before .before .before .before .before .before .args .bytes .now) (c .before .before .before .before .before .before .before .before .args .table .now) (c .before .before .before .before .before .if1 .left) (c .before .before .before .before .read-table .ensures) (c .before .before .answer .given .1) (c .refuse2 .ensures)
+    let a = c .before .before .before .before .before .before .before .before .args in
+    table-not-read (a .bytes .now) (a .table .now) (c .before .before .before .before .before .if1 .left) (c .before .before .before .before .read-table .ensures) (c .before .before .answer .given .1) (c .refuse2 .ensures)
 
 same-length : tie.Need-same-length
 same-length c = search needs
 
 returns-3 : tie.Need-returns-3
 returns-3 c =
-    table-was-read (c .before .before .before .before .before .before .before .before .before .before .before .args .bytes .now) (c .before .before .before .before .before .before .before .before .before .before .before .args .table .now) (c .before .before .before .before .before .before .before .before .if1 .left) (c .before .before .before .before .before .before .before .read-table .ensures) (c .before .before .before .before .before .enum-told .given .1) (c .before .before .before .put-table .ensures) (c .accept .ensures)
+    let a = c .before .before .before .before .before .before .before .before .before .before .before .args in
+    table-was-read (a .bytes .now) (a .table .now) (c .before .before .before .before .before .before .before .before .if1 .left) (c .before .before .before .before .before .before .before .read-table .ensures) (c .before .before .before .before .before .enum-told .given .1) (c .before .before .before .put-table .ensures) (c .accept .ensures)
 
 pub cabinet-read-table-spec : {M : Type 1} → statement M
 cabinet-read-table-spec =

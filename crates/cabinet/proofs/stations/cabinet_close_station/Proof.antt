@@ -15,7 +15,8 @@ same-length c = search needs
 
 returns : tie.Need-returns
 returns c =
-    station-stopped (c .before .before .before .before .before .before .before .before .args .table .now) (c .before .before .before .before .before .before .before .before .args .common .now) (c .before .before .before .before .before .before .before .before .args .r) (c .before .before .before .before .before .before .before .before .args .releases .now) (c .before .before .before .before .before .before .before .before .args .entries .now) (c .before .before .look-at-common .ensures) (c .before .if1 .taken) (c .refuse-close .ensures)
+    let a = c .before .before .before .before .before .before .before .before .args in
+    station-stopped (a .table .now) (a .common .now) (a .r) (a .releases .now) (a .entries .now) (c .before .before .look-at-common .ensures) (c .before .if1 .taken) (c .refuse-close .ensures)
 
 round-in-requires : tie.Need-round-in-requires
 round-in-requires c κs = search needs
@@ -28,11 +29,13 @@ same-length-2 c = search needs
 
 returns-2 : tie.Need-returns-2
 returns-2 c =
-    station-unlisted (c .before .before .before .before .before .before .before .before .before .before .args .table .now) (c .before .before .before .before .before .before .before .before .before .before .args .common .now) (c .before .before .before .before .before .before .before .before .before .before .args .r) (c .before .before .before .before .before .before .before .before .before .before .args .releases .now) (c .before .before .before .before .before .before .before .before .before .before .args .entries .now) (c .before .before .before .before .look-at-common .ensures) (c .before .before .before .if1 .left) (c .before .before .round-in .ensures) (c .before .if2 .taken) (c .refuse-close2 .ensures)
+    let a = c .before .before .before .before .before .before .before .before .before .before .args in
+    station-unlisted (a .table .now) (a .common .now) (a .r) (a .releases .now) (a .entries .now) (c .before .before .before .before .look-at-common .ensures) (c .before .before .before .if1 .left) (c .before .before .round-in .ensures) (c .before .if2 .taken) (c .refuse-close2 .ensures)
 
 close-round-requires : tie.Need-close-round-requires
 close-round-requires c κs =
-    station-ready (c .before .before .before .before .before .before .before .before .before .args .table .now) (c .before .before .before .before .before .before .before .before .before .args .common .now) (c .before .before .before .before .before .before .before .before .before .args .r) (c .before .before .before .before .before .before .before .before .before .args .releases .now) (c .before .before .before .before .before .before .before .before .before .args .entries .now) (c .before .before .before .look-at-common .ensures) (c .before .before .if1 .left)
+    let a = c .before .before .before .before .before .before .before .before .before .args in
+    station-ready (a .table .now) (a .common .now) (a .r) (a .releases .now) (a .entries .now) (c .before .before .before .look-at-common .ensures) (c .before .before .if1 .left)
 
 enum-known-outcome : tie.Need-enum-known-outcome
 enum-known-outcome c = search needs
@@ -45,7 +48,8 @@ enum-told c = search needs
 
 put-common-requires : tie.Need-put-common-requires
 put-common-requires c κs =
-    station-room (c .before .before .before .before .before .before .before .before .before .before .before .before .before .args .table .now) (c .before .before .before .before .before .before .before .before .before .before .before .before .before .args .common .now) (c .before .before .before .before .before .before .before .before .before .before .before .before .before .args .r) (c .before .before .before .before .before .before .before .before .before .before .before .before .before .args .releases .now) (c .before .before .before .before .before .before .before .before .before .before .before .before .before .args .entries .now) (c .before .before .before .before .before .before .before .look-at-common .ensures) (c .before .before .before .before .before .before .if1 .left) (c .before .before .before .before .before .round-in .ensures) (c .before .before .before .before .if2 .left) (c .before .before .before .close-round .ensures)
+    let a = c .before .before .before .before .before .before .before .before .before .before .before .before .before .args in
+    station-room (a .table .now) (a .common .now) (a .r) (a .releases .now) (a .entries .now) (c .before .before .before .before .before .before .before .look-at-common .ensures) (c .before .before .before .before .before .before .if1 .left) (c .before .before .before .before .before .round-in .ensures) (c .before .before .before .before .if2 .left) (c .before .before .before .close-round .ensures)
 
 bit-requires : tie.Need-bit-requires
 bit-requires c κs = search needs
@@ -55,14 +59,16 @@ same-length-3 c = search needs
 
 returns-3 : tie.Need-returns-3
 returns-3 c =
-    station-refused (c .before .before .before .before .before .before .before .before .before .before .before .before .before .before .args .table .now) (c .before .before .before .before .before .before .before .before .before .before .before .before .before .before .args .common .now) (c .before .before .before .before .before .before .before .before .before .before .before .before .before .before .args .r) (c .before .before .before .before .before .before .before .before .before .before .before .before .before .before .args .releases .now) (c .before .before .before .before .before .before .before .before .before .before .before .before .before .before .args .entries .now) (c .before .before .before .before .before .before .before .before .look-at-common .ensures) (c .before .before .before .before .before .before .before .if1 .left) (c .before .before .before .before .before .before .round-in .ensures) (c .before .before .before .before .before .if2 .left) (c .before .before .before .before .close-round .ensures) (c .before .before .outcome .given .1) (c .refuse-close3 .ensures)
+    let a = c .before .before .before .before .before .before .before .before .before .before .before .before .before .before .args in
+    station-refused (a .table .now) (a .common .now) (a .r) (a .releases .now) (a .entries .now) (c .before .before .before .before .before .before .before .before .look-at-common .ensures) (c .before .before .before .before .before .before .before .if1 .left) (c .before .before .before .before .before .before .round-in .ensures) (c .before .before .before .before .before .if2 .left) (c .before .before .before .before .close-round .ensures) (c .before .before .outcome .given .1) (c .refuse-close3 .ensures)
 
 same-length-4 : tie.Need-same-length-4
 same-length-4 c = search needs
 
 returns-4 : tie.Need-returns-4
 returns-4 c =
-    station-closed (c .before .before .before .before .before .before .before .before .before .before .before .before .before .before .before .before .before .before .args .table .now) (c .before .before .before .before .before .before .before .before .before .before .before .before .before .before .before .before .before .before .args .common .now) (c .before .before .before .before .before .before .before .before .before .before .before .before .before .before .before .before .before .before .args .r) (c .before .before .before .before .before .before .before .before .before .before .before .before .before .before .before .before .before .before .args .releases .now) (c .before .before .before .before .before .before .before .before .before .before .before .before .before .before .before .before .before .before .args .entries .now) (c .before .before .before .before .before .before .before .before .before .before .before .before .look-at-common .ensures) (c .before .before .before .before .before .before .before .before .before .before .before .if1 .left) (c .before .before .before .before .before .before .before .before .before .before .round-in .ensures) (c .before .before .before .before .before .before .before .before .before .if2 .left) (c .before .before .before .before .before .before .before .before .close-round .ensures) (c .before .before .before .before .before .before .enum-told .given .1) (c .before .bit .ensures) (c .before .before .before .before .put-common .ensures)
+    let a = c .before .before .before .before .before .before .before .before .before .before .before .before .before .before .before .before .before .before .args in
+    station-closed (a .table .now) (a .common .now) (a .r) (a .releases .now) (a .entries .now) (c .before .before .before .before .before .before .before .before .before .before .before .before .look-at-common .ensures) (c .before .before .before .before .before .before .before .before .before .before .before .if1 .left) (c .before .before .before .before .before .before .before .before .before .before .round-in .ensures) (c .before .before .before .before .before .before .before .before .before .if2 .left) (c .before .before .before .before .before .before .before .before .close-round .ensures) (c .before .before .before .before .before .before .enum-told .given .1) (c .before .bit .ensures) (c .before .before .before .before .put-common .ensures)
 
 pub cabinet-close-station-spec : {M : Type 1} → statement M
 cabinet-close-station-spec =

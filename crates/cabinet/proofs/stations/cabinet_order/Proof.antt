@@ -12,18 +12,21 @@ refuse-requires c κs = search needs
 
 returns : tie.Need-returns
 returns c =
-    order-stopped (c .before .before .before .before .before .before .args .table .now) (c .before .before .before .before .before .before .args .common .now) (c .before .before .before .before .before .before .args .order .now) (c .before .before .look-at-common .ensures) (c .before .if1 .taken) (c .refuse .ensures)
+    let a = c .before .before .before .before .before .before .args in
+    order-stopped (a .table .now) (a .common .now) (a .order .now) (c .before .before .look-at-common .ensures) (c .before .if1 .taken) (c .refuse .ensures)
 
 refuse-requires-2 : tie.Need-refuse-requires-2
 refuse-requires-2 c κs = search needs
 
 returns-2 : tie.Need-returns-2
 returns-2 c =
-    order-short (c .before .before .before .before .before .before .before .before .args .table .now) (c .before .before .before .before .before .before .before .before .args .common .now) (c .before .before .before .before .before .before .before .before .args .order .now) (c .before .before .before .before .look-at-common .ensures) (c .before .before .before .if1 .left) (c .before .if2 .taken) (c .refuse2 .ensures)
+    let a = c .before .before .before .before .before .before .before .before .args in
+    order-short (a .table .now) (a .common .now) (a .order .now) (c .before .before .before .before .look-at-common .ensures) (c .before .before .before .if1 .left) (c .before .if2 .taken) (c .refuse2 .ensures)
 
 put-order-requires : tie.Need-put-order-requires
 put-order-requires c κs =
-    order-fits (c .before .before .before .before .before .before .before .before .before .args .table .now) (c .before .before .before .before .before .before .before .before .before .args .common .now) (c .before .before .before .before .before .before .before .before .before .args .order .now) (c .before .before .before .before .before .look-at-common .ensures) (c .before .before .before .before .if1 .left) (c .before .before .if2 .left)
+    let a = c .before .before .before .before .before .before .before .before .before .args in
+    order-fits (a .table .now) (a .common .now) (a .order .now) (c .before .before .before .before .before .look-at-common .ensures) (c .before .before .before .before .if1 .left) (c .before .before .if2 .left)
 
 accept-requires : tie.Need-accept-requires
 accept-requires c κs = search needs
@@ -33,7 +36,8 @@ same-length c = search needs
 
 returns-3 : tie.Need-returns-3
 returns-3 c =
-    order-told (c .before .before .before .before .before .before .before .before .before .before .before .before .before .args .table .now) (c .before .before .before .before .before .before .before .before .before .before .before .before .before .args .common .now) (c .before .before .before .before .before .before .before .before .before .before .before .before .before .args .order .now) (c .before .before .before .before .before .before .before .before .before .look-at-common .ensures) (c .before .before .before .before .before .before .before .before .if1 .left) (c .before .before .before .before .before .before .if2 .left) (c .before .before .before .put-order .ensures) (c .accept .ensures)
+    let a = c .before .before .before .before .before .before .before .before .before .before .before .before .before .args in
+    order-told (a .table .now) (a .common .now) (a .order .now) (c .before .before .before .before .before .before .before .before .before .look-at-common .ensures) (c .before .before .before .before .before .before .before .before .if1 .left) (c .before .before .before .before .before .before .if2 .left) (c .before .before .before .put-order .ensures) (c .accept .ensures)
 
 pub cabinet-order-spec : {M : Type 1} → statement M
 cabinet-order-spec =
