@@ -1,5 +1,6 @@
 //! A drill's script as a story: what was typed and answered, scene by scene.
 
+use std::collections::HashMap;
 use std::mem::take;
 
 use cabinet::{Closing, Common, Refusal};
@@ -63,13 +64,18 @@ struct Playing {
     notes: Vec<String>,
     /// The latest time of all.
     newest: u64,
+    /// How many rounds stand at a time.
+    rounds_at: HashMap<u64, usize>,
+    /// By node, time and rank.
+    steps: HashMap<(usize, u64, usize), Step>,
 }
 
 impl Playing {
     fn begun(state: &State, caption: String, notes: Vec<String>) -> Playing {
         let plan = Plan { table: state.plan.table.clone(), names: state.plan.names.clone() };
         let lanes = vec![Lane::default(); state.seats.len()];
-        Playing { caption, plan, lanes, rounds: Vec::new(), state: state.clone(), notes, newest: 0 }
+        let (rounds, rounds_at, steps) = (Vec::new(), HashMap::new(), HashMap::new());
+        Playing { caption, plan, lanes, rounds, state: state.clone(), notes, newest: 0, rounds_at, steps }
     }
 
     fn take(&mut self, event: &Event) {
@@ -84,6 +90,7 @@ impl Playing {
             (Command::Close { node, entries, .. }, Reply::Close(close)) => {
                 let round = self.round(*node, entries, close, after);
                 self.mark_left_behind(round.at, after);
+                *self.rounds_at.entry(round.at.time).or_default() += 1;
                 self.rounds.push(round);
             }
             _ => {}
@@ -130,7 +137,7 @@ impl Playing {
     fn act(&mut self, node: usize, time: u64, what: What) {
         self.newest = self.newest.max(time);
         let rank = self.rank(node, time);
-        let step = step(&self.lanes[node].acts, time, rank, &what);
+        let step = self.steps.entry((node, time, rank)).or_default().take(&what);
         self.lanes[node].acts.push(Act { at: Place { time, rank, step }, what });
     }
 
@@ -142,7 +149,7 @@ impl Playing {
     }
 
     fn rounds_at(&self, time: u64) -> usize {
-        self.rounds.iter().filter(|round| round.at.time == time).count()
+        self.rounds_at.get(&time).copied().unwrap_or(0)
     }
 
     fn round(&self, alone: Option<usize>, entries: &[Typed], close: &Close, after: &State) -> Round {
@@ -193,10 +200,10 @@ impl Playing {
     /// A record that is refused is drawn where the cabinet stands, whatever its
     /// time says.
     fn drawn(&self, r: u64, answer: &Result<Closing, Refusal>) -> u64 {
-        let last = self.rounds.iter().map(|round| round.at.time).max().unwrap_or(0);
+        let last = || self.rounds.iter().map(|round| round.at.time).max().unwrap_or(0);
         match answer {
             Ok(_) => r,
-            Err(_) => r.clamp(last, self.newest.max(last)),
+            Err(_) => r.clamp(last(), self.newest.max(last())),
         }
     }
 
@@ -229,18 +236,30 @@ impl Playing {
     }
 }
 
-/// The step of an act among those of its node at one time: a job that took no
-/// time, and a second thing to tell, have a place of their own to be seen.
-fn step(acts: &[Act], time: u64, rank: usize, what: &What) -> usize {
-    let at = |act: &&Act| (act.at.time, act.at.rank) == (time, rank);
-    let Some(step) = acts.iter().filter(at).map(|act| act.at.step).max() else { return 0 };
-    let mut here = acts.iter().filter(at).filter(|act| act.at.step == step);
-    let taken = here.any(|act| match what {
-        What::Finishes(..) => matches!(act.what, What::Starts(..)),
-        What::Waits(_) | What::Tells(_) => matches!(act.what, What::Waits(_) | What::Tells(_)),
-        What::Starts(..) | What::Done => false,
-    });
-    step + usize::from(taken)
+/// What stands at the last step of a time in a lane.
+#[derive(Default)]
+struct Step {
+    number: usize,
+    started: bool,
+    told: bool,
+}
+
+impl Step {
+    /// The step of the next act: a job that took no time, and a second thing to
+    /// tell, have a place of their own to be seen.
+    fn take(&mut self, what: &What) -> usize {
+        let taken = match what {
+            What::Finishes(..) => self.started,
+            What::Waits(_) | What::Tells(_) => self.told,
+            What::Starts(..) | What::Done => false,
+        };
+        if taken {
+            *self = Step { number: self.number + 1, ..Step::default() };
+        }
+        self.started |= matches!(what, What::Starts(..));
+        self.told |= matches!(what, What::Waits(_) | What::Tells(_));
+        self.number
+    }
 }
 
 /// A report that was typed by hand is what the node says, not what its software
