@@ -1,7 +1,7 @@
 -- Any two replies that a contract admits coincide.
 use mathlib.Core.Path.{_≡_, sym, _∙_}
 use mathlib.Core.Bool.{Bool}
-use mathlib.Core.List.{List, foldr, map}
+use mathlib.Core.List.{List, [], foldr, map}
 use Prim.Native.Nat.{ℕ, _+_, _/_}
 use lib.ListN.{take}
 use Rattle.laws.specs.Tests.{_≤?_}
@@ -9,7 +9,10 @@ use Rattle.laws.specs.Search.{number-of}
 use Rattle.laws.specs.Lists.{pad}
 use Rattle.passes.specs.declared.Back.{Back}
 use Rattle.passes.specs.declared.Classed.{Classed}
-use Rattle.passes.specs.Classed.{class-in, in-front, front-step, back-of}
+use Rattle.passes.specs.Classed.{no-class, class-in, in-front, front-step, back-of}
+
+pub none-classed-settled : {r s : List Classed} → r ≡ pad 15 no-class [] → s ≡ pad 15 no-class [] → r ≡ s
+none-classed-settled e d = e ∙ sym d
 
 pub counts-settled : (class : ℕ) {r s : Bool} → r ≡ in-front class → s ≡ in-front class → r ≡ s
 counts-settled class e d = e ∙ sym d
