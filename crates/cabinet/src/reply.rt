@@ -44,7 +44,7 @@ pub struct RecordReply {
     pub used: u64,
 }
 
-pub fn bit(b: bool) -> u64
+pub(crate) fn bit(b: bool) -> u64
     ensures { λ r. ⌜ r ≡ bit b ⌝ }
 {
     if b {
@@ -53,7 +53,7 @@ pub fn bit(b: bool) -> u64
     0
 }
 
-pub fn refuse(number: u64) -> Reply
+pub(crate) fn refuse(number: u64) -> Reply
     ensures { λ r. ⌜ r ≡ record { refusal = number; value = 0 } ⌝ }
 {
     Reply {
@@ -62,13 +62,13 @@ pub fn refuse(number: u64) -> Reply
     }
 }
 
-pub fn accept(value: u64) -> Reply
+pub(crate) fn accept(value: u64) -> Reply
     ensures { λ r. ⌜ r ≡ record { refusal = 0; value = value } ⌝ }
 {
     Reply { refusal: 0, value }
 }
 
-pub fn refuse_close(number: u64) -> CloseReply
+pub(crate) fn refuse_close(number: u64) -> CloseReply
     ensures { λ r. ⌜ r ≡ no-close number ⌝ }
 {
     CloseReply {
