@@ -3,3 +3,4 @@ pub mod Lent
 pub mod Folded
 pub mod Rounds
 pub mod Settled
+pub mod Walking

@@ -2,7 +2,7 @@
 use mathlib.Core.Path.{_≡_, sym, ap, ap₂, _∙_}
 use mathlib.Core.Option.{Option}
 use mathlib.Core.List.{List, map}
-use Prim.Native.Nat.{_≤_}
+use Prim.Native.Nat.{ℕ, _≤_}
 use native.Mathlib.Omega.{arith}
 use lib.ListN.{length, take, length-map}
 use lib.Seq.{length-take-le}
@@ -18,25 +18,22 @@ use Rattle.common.specs.Common.{commonOf}
 use Rattle.round.specs.declared.Place.{Place}
 use Rattle.round.specs.declared.Round.{Round}
 use Rattle.round.specs.Round.{entryOf, entriesOf, roundOf, no-entry}
-use Rattle.judge.specs.declared.class.Before.{Before}
+use Rattle.judge.specs.declared.Prepared.{Prepared}
 use Rattle.judge.specs.declared.Judgement.{Judgement}
 use Rattle.passes.specs.declared.Classed.{Classed}
 use Rattle.passes.specs.Classed.{no-class}
 use Rattle.judge.specs.Judgement.{classed-as, conclusion, judgement, Ready}
-use Rattle.judge.specs.Lent.{before, classed-at, Judgeable}
-use Rattle.judge.proofs.Lent.{classed-same, judgeable}
+use Rattle.judge.specs.Lent.{prepared, classed-at}
+use Rattle.judge.proofs.Lent.{classed-same}
 use Rattle.judge.proofs.Folded.{map-map, concluded}
 
 module _ {t : Table} {c : Common} {q : Round} (v : Ready t c q) where
   pub few : q .entered ≤ 15
   few = omega (arith, v .entered, ranges (v .checked) .nodes)
 
-  module _ {b : Before} (e : b ≡ before t c (q .time)) where
-    pub ready-judgeable : Judgeable (t .longest) (t .slack) (c .tasks) (c .earliest) b
-    ready-judgeable = judgeable (v .checked) (v .given) (q .time) e (v .time)
-
+  module _ {p : Prepared} (d : p ≡ prepared t c (q .time)) where
     abbrev judged : Option rules.Report → Classed
-    judged = classed-at (t .longest) (t .slack) (c .tasks) (c .earliest) b
+    judged = classed-at (p .ends) (p .before)
 
     module _ (places : length (q .entries) ≡ 15) {all : List Classed}
         (a : all ≡ pad 15 no-class (map (λ p. judged (entryOf (p .entry))) (take (q .entered) (q .entries)))) where
@@ -52,7 +49,7 @@ module _ {t : Table} {c : Common} {q : Round} (v : Ready t c q) where
       taken =
           ap₂ take (sym counted) a
           ∙ take-pad 15 no-class (map one (take (q .entered) (q .entries)))
-          ∙ ap (λ (f : Option rules.Report → Classed). map (λ (p : Place). f (entryOf (p .entry))) (take (q .entered) (q .entries))) (λ i x. classed-same (v .checked) (v .given) (q .time) e x i)
+          ∙ ap (λ (f : Option rules.Report → Classed). map (λ (p : Place). f (entryOf (p .entry))) (take (q .entered) (q .entries))) (λ i x. classed-same (v .checked) (v .given) (q .time) d x i)
           ∙ sym (map-map (λ (p : Place). entryOf (p .entry)) (classed-as (tableOf t) (commonOf c) (q .time)) (take (q .entered) (q .entries)))
           ∙ ap (map (classed-as (tableOf t) (commonOf c) (q .time))) (rows-take (λ (p : Place). entryOf (p .entry)) (q .entries) no-entry (q .entered) (omega (arith, few)))
 

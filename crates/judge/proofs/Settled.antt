@@ -14,20 +14,24 @@ use Rattle.round.specs.Round.{entryOf, roundOf}
 use Rattle.passes.specs.declared.Classed.{Classed}
 use Rattle.judge.specs.declared.Judgement.{Judgement}
 use Rattle.judge.specs.declared.class.Before.{Before}
-use Rattle.judge.specs.Judgement.{classed-as, conclusion, judgement}
-use Rattle.judge.specs.Lent.{class-at}
+use Rattle.judge.specs.declared.Prepared.{Prepared}
+use Rattle.judge.specs.Judgement.{conclusion, judgement}
+use Rattle.judge.specs.Lent.{prepared, class-at, classed-at}
 
-pub class-of-settled : (longest slack tasks earliest : List ℕ) (b : Before) (entry : Entry) {r s : ℕ} → r ≡ class-at longest slack tasks earliest b (entryOf entry)
-    → s ≡ class-at longest slack tasks earliest b (entryOf entry) → r ≡ s
-class-of-settled longest slack tasks earliest b entry e d = e ∙ sym d
+pub class-of-settled : (ends : List ℕ) (b : Before) (entry : Entry) {r s : ℕ} → r ≡ class-at ends b (entryOf entry)
+    → s ≡ class-at ends b (entryOf entry) → r ≡ s
+class-of-settled ends b entry e d = e ∙ sym d
 
 pub judge-entry-settled : (t : Table) (c : Common) (time : ℕ) (entry : Entry) {r s : ℕ} → r ≡ class (tableOf t) (commonOf c) time (entryOf entry)
     → s ≡ class (tableOf t) (commonOf c) time (entryOf entry) → r ≡ s
 judge-entry-settled t c time entry e d = e ∙ sym d
 
-pub classed-entry-settled : (t : Table) (c : Common) (time : ℕ) (entry : Entry) {r s : Classed} → r ≡ classed-as (tableOf t) (commonOf c) time (entryOf entry)
-    → s ≡ classed-as (tableOf t) (commonOf c) time (entryOf entry) → r ≡ s
-classed-entry-settled t c time entry e d = e ∙ sym d
+pub prepare-settled : (t : Table) (c : Common) (time : ℕ) {r s : Prepared} → r ≡ prepared t c time → s ≡ prepared t c time → r ≡ s
+prepare-settled t c time e d = e ∙ sym d
+
+pub classed-entry-settled : (p : Prepared) (entry : Entry) {r s : Classed} → r ≡ classed-at (p .ends) (p .before) (entryOf entry)
+    → s ≡ classed-at (p .ends) (p .before) (entryOf entry) → r ≡ s
+classed-entry-settled p entry e d = e ∙ sym d
 
 pub conclude-settled : (t : Table) (c : Common) (all : List Classed) (n : ℕ) {r s : Judgement} → r ≡ conclusion (tableOf t) (commonOf c) (take n all)
     → s ≡ conclusion (tableOf t) (commonOf c) (take n all) → r ≡ s

@@ -54,18 +54,11 @@ fn start_of(b: Before, e: Report) -> u64
 }
 
 // "Each entry gets the first class that fits"; beside it stands what the passes read.
-pub fn with_class<'a>(
-    longest: &'a [u64; 64],
-    slack: &'a [u64; 64],
-    tasks: &'a [u8; 256],
-    earliest: &'a [u64; 64],
-    b: Before,
-    entry: Entry,
-) -> Classed
-    requires { ⌜ Judgeable (now longest) (now slack) (now tasks) (now earliest) b ⌝ }
-    ensures { λ r. ⌜ r ≡ classed-at (now (longest .entry)) (now (slack .entry)) (now (tasks .entry)) (now (earliest .entry)) b (entryOf entry) ⌝ }
+pub fn with_class(ends: &[u64; 257], b: Before, entry: Entry) -> Classed
+    requires { ⌜ Judgeable b ⌝ }
+    ensures { λ r. ⌜ r ≡ classed-at (now (ends .entry)) b (entryOf entry) ⌝ }
 {
-    let class = crate::class::class_of(longest, slack, tasks, earliest, b, entry);
+    let class = crate::class::class_of(ends, b, entry);
     let e = numbers_of(entry);
     let front = front_of(class, e);
     let start = start_of(b, e);
@@ -77,19 +70,11 @@ pub fn with_class<'a>(
     }
 }
 
-pub fn judge_entries<'a>(
-    longest: &'a [u64; 64],
-    slack: &'a [u64; 64],
-    tasks: &'a [u8; 256],
-    earliest: &'a [u64; 64],
-    b: Before,
-    entries: [Place; 15],
-    n: usize,
-) -> [Classed; 15]
-    requires { ⌜ Judgeable (now longest) (now slack) (now tasks) (now earliest) b ⌝ }
+pub fn judge_entries(ends: &[u64; 257], b: Before, entries: [Place; 15], n: usize) -> [Classed; 15]
+    requires { ⌜ Judgeable b ⌝ }
     requires { ⌜ n ≤ 15 ⌝ }
     ensures { λ r. ⌜ r ≡ pad 15 no-class (map
-        (λ p. classed-at (now (longest .entry)) (now (slack .entry)) (now (tasks .entry)) (now (earliest .entry)) b (entryOf (p .entry)))
+        (λ p. classed-at (now (ends .entry)) b (entryOf (p .entry)))
         (take n entries)) ⌝ }
 {
     let mut all = passes::none_classed();
@@ -97,7 +82,7 @@ pub fn judge_entries<'a>(
     while i < n {
         let place = entries[i];
         let entry = place.entry;
-        let x = with_class(longest, slack, tasks, earliest, b, entry);
+        let x = with_class(ends, b, entry);
         all[i] = x;
         i += 1;
     }

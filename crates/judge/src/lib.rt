@@ -1,4 +1,4 @@
-// How a round is judged.
+// How a round is judged: one walk over the order for all its entries, then each entry by itself, then the passes over them.
 pub mod class;
 mod entries;
 
@@ -15,8 +15,8 @@ ghost use Rattle.rules.specs.Judge.{class};
 ghost use Rattle.table.specs.Table.{tableOf, Checked};
 ghost use Rattle.common.specs.Common.{commonOf, Given};
 ghost use Rattle.round.specs.Round.{entryOf, roundOf};
-ghost use Rattle.judge.specs.Judgement.{classed-as, conclusion, judgement, Ready};
-ghost use Rattle.judge.specs.Lent.{before};
+ghost use Rattle.judge.specs.Judgement.{conclusion, judgement, Ready};
+ghost use Rattle.judge.specs.Lent.{projections-of, before, prepared, classed-at, Judgeable};
 
 // The reply's classes, back-runner (15 if none) and notice, and the new B, W and O.
 pub struct Judgement {
@@ -28,19 +28,51 @@ pub struct Judgement {
     pub offset: u64,
 }
 
-// "The values of B, W, O, L, E before the round are used."
-fn before_round(t: Table, c: Common, time: u64) -> Before
+// What one walk over the order finds for all entries of a round: the projections of all positions, and the numbers before the round.
+pub struct Prepared {
+    pub ends: [u64; 257],
+    pub before: Before,
+}
+
+// "The values of B, W, O, L, E before the round are used", and how far past O the bound is kept at `time`.
+fn before_round(t: Table, c: Common, ends: &[u64; 257], time: u64) -> Before
+    requires { ⌜ Checked t ⌝ }
+    requires { ⌜ Given t c ⌝ }
+    requires { ⌜ time < 2 ^ 48 ⌝ }
+    requires { ⌜ now ends ≡ projections-of t c ⌝ }
     ensures { λ r. ⌜ r ≡ before t c time ⌝ }
 {
+    let from = (c.offset - c.base) as usize;
+    let first = walk::first_break(
+        ends,
+        &t.slack,
+        &c.tasks,
+        &c.earliest,
+        t.count,
+        time,
+        from,
+        c.count,
+    );
     Before {
         base: c.base,
-        start: c.start,
         offset: c.offset,
         kept: c.count,
-        tasks: t.count,
         time,
         timeout: t.timeout,
+        clear: c.base + first as u64,
     }
+}
+
+// One walk over the order, once a round: whatever the reports say, the stretch from O + 1 on is the same.
+pub fn prepare(t: Table, c: Common, time: u64) -> Prepared
+    requires { ⌜ Checked t ⌝ }
+    requires { ⌜ Given t c ⌝ }
+    requires { ⌜ time < 2 ^ 48 ⌝ }
+    ensures { λ r. ⌜ r ≡ prepared t c time ⌝ }
+{
+    let ends = walk::projections(&t.longest, &c.tasks, c.start, c.count);
+    let before = before_round(t, c, &ends, time);
+    Prepared { ends, before }
 }
 
 // "Each entry gets the first class that fits": one entry of a round at `time`.
@@ -50,19 +82,19 @@ pub fn judge_entry(t: Table, c: Common, time: u64, entry: Entry) -> u8
     requires { ⌜ time < 2 ^ 48 ⌝ }
     ensures { λ r. ⌜ r ≡ class (tableOf t) (commonOf c) time (entryOf entry) ⌝ }
 {
-    let b = before_round(t, c, time);
-    class::class_of(&t.longest, &t.slack, &c.tasks, &c.earliest, b, entry)
+    let p = prepare(t, c, time);
+    let before = p.before;
+    class::class_of(&p.ends, before, entry)
 }
 
-// The same with what the passes over all entries of the round read of it.
-pub fn classed_entry(t: Table, c: Common, time: u64, entry: Entry) -> Classed
-    requires { ⌜ Checked t ⌝ }
-    requires { ⌜ Given t c ⌝ }
-    requires { ⌜ time < 2 ^ 48 ⌝ }
-    ensures { λ r. ⌜ r ≡ classed-as (tableOf t) (commonOf c) time (entryOf entry) ⌝ }
+// One entry of a prepared round, with what the passes over all entries read of it. Of what `prepare` gives it is what the rules say (`classed-same` in
+// proofs/Lent.antt).
+pub fn classed_entry(p: Prepared, entry: Entry) -> Classed
+    requires { ⌜ Judgeable (p .before) ⌝ }
+    ensures { λ r. ⌜ r ≡ classed-at (p .ends) (p .before) (entryOf entry) ⌝ }
 {
-    let b = before_round(t, c, time);
-    entries::with_class(&t.longest, &t.slack, &c.tasks, &c.earliest, b, entry)
+    let before = p.before;
+    entries::with_class(&p.ends, before, entry)
 }
 
 // What the passes give over the first n entries of a round, each with its class.
@@ -86,14 +118,15 @@ pub fn conclude(t: Table, c: Common, all: [Classed; 15], n: usize) -> Judgement
     }
 }
 
-// How a round is judged: each entry's class, then what the passes over them give. The records come and go by value, so none is changed.
+// How a round is judged: one walk, each entry's class, then what the passes over them give. The records come and go by value, so none is changed.
 pub fn judge_round(t: Table, c: Common, q: Round) -> Judgement
     requires { ⌜ Ready t c q ⌝ }
     ensures { λ r. ⌜ r ≡ judgement (tableOf t) (commonOf c) (roundOf q) ⌝ }
 {
     let n = q.entered;
     let entries = q.entries;
-    let b = before_round(t, c, q.time);
-    let all = entries::judge_entries(&t.longest, &t.slack, &c.tasks, &c.earliest, b, entries, n);
+    let p = prepare(t, c, q.time);
+    let before = p.before;
+    let all = entries::judge_entries(&p.ends, before, entries, n);
     conclude(t, c, all, n)
 }

@@ -6,11 +6,12 @@ use lib.ListN.{take, set}
 use Rattle.laws.specs.Tests.{_≤?_, if_then_else_}
 use Rattle.laws.specs.Lists.{pad}
 use Rattle.rules.specs.Judge as rules
-use Rattle.table.specs.Table.{tableOf, Checked}
-use Rattle.common.specs.Common.{commonOf, Given}
+use Rattle.table.specs.Table.{Checked}
+use Rattle.common.specs.Common.{Given}
 use Rattle.passes.specs.declared.Classed.{Classed}
 use Rattle.passes.specs.Classed.{no-class}
-use Rattle.judge.specs.Judgement.{classed-as}
+use Rattle.judge.specs.declared.Prepared.{Prepared}
+use Rattle.judge.specs.Lent.{prepared, classed-at}
 use Rattle.reports.specs.declared.Told.{Told}
 use Rattle.reports.specs.declared.Basis.{Basis}
 use Rattle.reports.specs.declared.Judging.{Judging}
@@ -31,13 +32,13 @@ pub record Ready (b : Basis) : Type 0 where
   pub time : b .time < 2 ^ 48
 
 -- A report with its class, and with what the passes read of it.
-abbrev pub judged : Basis → Told → Classed
-judged b e = classed-as (tableOf (b .table)) (commonOf (b .common)) (b .time) (toldOf e)
+abbrev pub judged : Prepared → Told → Classed
+judged p e = classed-at (p .ends) (p .before) (toldOf e)
 
--- No report is judged yet.
+-- The walk is done, and no report is judged yet.
 abbrev pub begun : Basis → Judging
-begun b = record { basis = b; count = 0; all = pad 15 no-class [] }
+begun b = record { prepared = prepared (b .table) (b .common) (b .time); count = 0; all = pad 15 no-class [] }
 
 -- One report more, in the next place, where there is one.
 unfoldable pub with-next : Judging → Told → Judging
-with-next a e = if 15 ≤? a .count then a else record { basis = a .basis; count = a .count + 1; all = set (a .all) (a .count) (judged (a .basis) e) }
+with-next a e = if 15 ≤? a .count then a else record { prepared = a .prepared; count = a .count + 1; all = set (a .all) (a .count) (judged (a .prepared) e) }

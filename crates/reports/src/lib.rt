@@ -1,4 +1,5 @@
-// "The reports of a round are a list of records that the caller lends": the list is walked by a thin function over the judge of one report by value.
+// "The reports of a round are a list of records that the caller lends": the list is walked by a thin function over the judge of one report by value. What
+// all reports share is prepared once, before the first.
 ghost use mathlib.Core.Path.{_≡_};
 ghost use Prim.Native.Nat.{_≤_};
 ghost use lib.ListN.{take};
@@ -6,9 +7,11 @@ ghost use Rattle.table.specs.Table.{tableOf};
 ghost use Rattle.common.specs.Common.{commonOf};
 ghost use Rattle.round.specs.Round.{entry-as};
 ghost use Rattle.judge.specs.Judgement.{conclusion, judgement};
+ghost use Rattle.judge.specs.Lent.{Judgeable};
 ghost use Rattle.reports.specs.Reports.{toldOf, round-of, begun, with-next, Ready};
 use common::Common;
 use judge::Judgement;
+use judge::Prepared;
 use passes::Classed;
 use round::Entry;
 use round::Report;
@@ -29,19 +32,24 @@ pub struct Basis {
     pub time: u64,
 }
 
-// The first `count` reports of a round, judged: each in its node's place with its class and what the passes read of it.
+// The first `count` reports of a round, judged by what was prepared: each in its node's place with its class and what the passes read of it.
 pub struct Judging {
-    pub basis: Basis,
+    pub prepared: Prepared,
     pub count: usize,
     pub all: [Classed; 15],
 }
 
+// The one walk over the order, for all reports.
 fn begin(basis: Basis) -> Judging
+    requires { ⌜ Ready basis ⌝ }
     ensures { λ r. ⌜ r ≡ begun basis ⌝ }
 {
+    let table = basis.table;
+    let common = basis.common;
+    let prepared = judge::prepare(table, common, basis.time);
     let all = passes::none_classed();
     Judging {
-        basis,
+        prepared,
         count: 0,
         all,
     }
@@ -63,18 +71,16 @@ fn entry_of(e: Told) -> Entry
 
 // "Each entry gets the first class that fits": the next report, in the next place. There are fifteen; of a longer list the rest is not judged.
 pub fn judge_next(judging: Judging, e: Told) -> Judging
-    requires { ⌜ Ready (judging .basis) ⌝ }
+    requires { ⌜ Judgeable (judging .prepared .before) ⌝ }
     ensures { λ r. ⌜ r ≡ with-next judging e ⌝ }
 {
     let k = judging.count;
     if 15 <= k {
         return judging;
     }
-    let basis = judging.basis;
-    let table = basis.table;
-    let common = basis.common;
+    let prepared = judging.prepared;
     let entry = entry_of(e);
-    let x = judge::classed_entry(table, common, basis.time, entry);
+    let x = judge::classed_entry(prepared, entry);
     let mut next = judging;
     next.all[k] = x;
     next.count = k + 1;
@@ -82,11 +88,10 @@ pub fn judge_next(judging: Judging, e: Told) -> Judging
 }
 
 // What the passes over the reports give.
-fn conclude(judging: Judging) -> Judgement
-    requires { ⌜ Ready (judging .basis) × (judging .count ≤ 15) ⌝ }
-    ensures { λ r. ⌜ r ≡ conclusion (tableOf (judging .basis .table)) (commonOf (judging .basis .common)) (take (judging .count) (judging .all)) ⌝ }
+fn conclude(basis: Basis, judging: Judging) -> Judgement
+    requires { ⌜ Ready basis × (judging .count ≤ 15) ⌝ }
+    ensures { λ r. ⌜ r ≡ conclusion (tableOf (basis .table)) (commonOf (basis .common)) (take (judging .count) (judging .all)) ⌝ }
 {
-    let basis = judging.basis;
     let table = basis.table;
     let common = basis.common;
     let all = judging.all;
@@ -104,5 +109,5 @@ pub fn judge_reports(basis: Basis, reports: &[Told]) -> Judgement
         judging = judge_next(judging, reports[i]);
         i = i + 1;
     }
-    conclude(judging)
+    conclude(basis, judging)
 }

@@ -1,9 +1,10 @@
 -- What the check of a table answers, and the rules of one task read off its numbers.
-use mathlib.Core.Bool.{Bool, _&&_}
+use mathlib.Core.Bool.{Bool, not, _&&_}
 use mathlib.Core.List.{List, [], _∷_, foldr}
 use Prim.Native.Nat.{ℕ, _+_, max}
 use lib.ListN.{drop, getD}
 use Rattle.laws.specs.Tests.{_≤?_, all-of}
+use Rattle.laws.specs.Search.{first-from}
 use Rattle.laws.specs.Lists.{rows}
 use Rattle.rules.specs.Answer.{Answer, done, refused, refused-by}
 use Rattle.rules.specs.Table as rules
@@ -37,3 +38,8 @@ abbrev pub keeps-at : List ℕ → List ℕ → List ℕ → List ℕ → ℕ �
 keeps-at longest distance deadline slack timeout count i =
     keeps-numbers timeout (largest-from longest (i + 1) count)
     (record { C = getD longest i 0; T = getD distance i 0; D = getD deadline i 0; S = getD slack i 0 })
+
+-- The first task that breaks a rule, or their number where none does.
+unfoldable pub first-breaking : List ℕ → List ℕ → List ℕ → List ℕ → ℕ → ℕ → ℕ
+first-breaking longest distance deadline slack timeout count =
+    first-from (λ i. not (keeps-at longest distance deadline slack timeout count i)) 0 count

@@ -3,7 +3,8 @@ ghost use mathlib.Core.Path.{_≡_};
 ghost use Prim.Native.Nat.{_≤_, _<_, max};
 ghost use Rattle.rules.specs.Table.{out-of-range, check};
 ghost use Rattle.table.specs.Table.{tableOf};
-ghost use Rattle.table.specs.Check.{answerOf, small-numbers, in-order, keeps-numbers, keeps-at, largest-from};
+ghost use Rattle.table.specs.Check.{answerOf, small-numbers, in-order, keeps-numbers, first-breaking};
+ghost use Rattle.laws.specs.Tests.{if_then_else_};
 
 // "Each task has a longest execution C, least distance between releases T, deadline D and slack S": 64-bit numbers, so that an oversized one
 // is refused and never cut. Of the 64 places the first `count` are the tasks; nothing is asked of the others.
@@ -65,65 +66,57 @@ fn larger(a: u64, b: u64) -> u64
     a
 }
 
-// "the largest C of any lower-priority task": of the tasks from `from` on.
-fn largest_from(longest: &[u64; 64], from: usize, count: usize) -> u64
-    requires { ⌜ (from ≤ count) × (count ≤ 64) ⌝ }
-    ensures { λ r. ⌜ r ≡ largest-from (now (longest .entry)) from count ⌝ }
+// The task at i, where it breaks a rule, or else the first of those past it.
+fn first_of(keeps: bool, i: usize, past: usize) -> usize
+    ensures { λ r. ⌜ r ≡ (if keeps then past else i) ⌝ }
 {
-    let mut top = 0;
-    let mut k = count;
-    while from < k {
-        k -= 1;
-        top = larger(longest[k], top);
+    if keeps {
+        return past;
     }
-    top
+    i
 }
 
-// All rules of the task at a place.
-fn keeps_at<'a>(
+// The first task that breaks a rule, in one pass from the last task up, which carries "the largest C of any lower-priority task" along; `count` where none does.
+fn first_broken<'a>(
     longest: &'a [u64; 64],
     distance: &'a [u64; 64],
     deadline: &'a [u64; 64],
     slack: &'a [u64; 64],
     timeout: u64,
     count: usize,
-    i: usize,
-) -> bool
-    requires { ⌜ (i < count) × (count ≤ 64) ⌝ }
-    ensures { λ r. ⌜ r ≡ keeps-at (now (longest .entry)) (now (distance .entry)) (now (deadline .entry)) (now (slack .entry)) timeout count i ⌝ }
+) -> usize
+    requires { ⌜ count ≤ 64 ⌝ }
+    ensures { λ r. ⌜ r ≡ first-breaking (now (longest .entry)) (now (distance .entry)) (now (deadline .entry)) (now (slack .entry)) timeout count ⌝ }
 {
-    let lower = largest_from(longest, i + 1, count);
-    keeps_rules(
-        longest[i],
-        distance[i],
-        deadline[i],
-        slack[i],
-        lower,
-        timeout,
-    )
+    let mut first = count;
+    let mut top = 0;
+    let mut i = count;
+    while 0 < i {
+        i -= 1;
+        let keeps = keeps_rules(longest[i], distance[i], deadline[i], slack[i], top, timeout);
+        first = first_of(keeps, i, first);
+        top = larger(longest[i], top);
+    }
+    first
 }
 
-// "table 1, 2": all rules at each task, in the order of the tasks.
+// "table 1, 2": the first task that breaks a rule is named.
 pub fn check_table(t: Table) -> TableCheck
     ensures { λ r. ⌜ answerOf (tableOf t) r ≡ check (tableOf t) ⌝ }
 {
     if out_of_range(t.nodes, t.timeout, t.count as u64) {
         return TableCheck::OutOfRange;
     }
-    let mut i = 0;
-    while i < t.count {
-        if !keeps_at(
-            &t.longest,
-            &t.distance,
-            &t.deadline,
-            &t.slack,
-            t.timeout,
-            t.count,
-            i,
-        ) {
-            return TableCheck::Broken(i);
-        }
-        i += 1;
+    let first = first_broken(
+        &t.longest,
+        &t.distance,
+        &t.deadline,
+        &t.slack,
+        t.timeout,
+        t.count,
+    );
+    if first < t.count {
+        return TableCheck::Broken(first);
     }
     TableCheck::Passes
 }

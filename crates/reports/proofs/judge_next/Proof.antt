@@ -3,23 +3,17 @@ use mathlib.Core.Path.{_≡_, sym, ap, _∙_}
 use Prim.Native.Nat.{_+_, _≤_, _<_}
 use borrow.Author.Tests.{le-leb, lt-leb}
 use lib.ListN.{set}
-use Rattle.table.specs.Table.{tableOf}
-use Rattle.common.specs.Common.{commonOf}
 use Rattle.round.specs.declared.Entry.{Entry}
 use Rattle.round.specs.Round.{entryOf, entry-as}
 use Rattle.round.proofs.Same.{entry-there}
 use Rattle.passes.specs.declared.Classed.{Classed}
-use Rattle.judge.specs.Judgement.{classed-as}
+use Rattle.judge.specs.Lent.{classed-at}
 use Rattle.reports.specs.declared.Told.{Told}
 use Rattle.reports.specs.declared.Judging.{Judging}
 use Rattle.reports.specs.Reports.{toldOf, judged, with-next}
 use borrow.Author.Needs.{needs}
 use Rattle.reports.proofs.judge_next.Statement.{statement}
 use Rattle.reports.proofs.judge_next.Tie as tie
-use Rattle.reports.proofs.judge_next.Reads as reads
-use Rattle.reports.proofs.judge_next.Lts as lts
-use Rattle.judge.proofs.classed_entry.Reads as classed-entry-reads
-use Rattle.reports.proofs.entry_of.Reads as entry-of-reads
 
 module _ (a : Judging) (e : Told) where
   full : 15 ≤ a .count → a ≡ with-next a e
@@ -27,15 +21,15 @@ module _ (a : Judging) (e : Told) where
   full h = rw (le-leb 15 (a .count) h)
 
   module _ (h : a .count < 15) {entry : Entry} (p : entry ≡ entry-as (toldOf e)) {x : Classed}
-      (q : x ≡ classed-as (tableOf (a .basis .table)) (commonOf (a .basis .common)) (a .basis .time) (entryOf entry)) where
-    is-judged : x ≡ judged (a .basis) e
+      (q : x ≡ classed-at (a .prepared .ends) (a .prepared .before) (entryOf entry)) where
+    is-judged : x ≡ judged (a .prepared) e
     is-judged =
-        q ∙ ap (λ (o : Entry). classed-as (tableOf (a .basis .table)) (commonOf (a .basis .common)) (a .basis .time) (entryOf o)) p
-        ∙ ap (classed-as (tableOf (a .basis .table)) (commonOf (a .basis .common)) (a .basis .time)) (entry-there (toldOf e))
+        q ∙ ap (λ (o : Entry). classed-at (a .prepared .ends) (a .prepared .before) (entryOf o)) p
+        ∙ ap (classed-at (a .prepared .ends) (a .prepared .before)) (entry-there (toldOf e))
 
-    more : record { basis = a .basis; count = a .count + 1; all = set (a .all) (a .count) x } ≡ with-next a e
+    more : record { prepared = a .prepared; count = a .count + 1; all = set (a .all) (a .count) x } ≡ with-next a e
     unfolding with-next
-    more = rw (lt-leb 15 (a .count) h) (ap (λ (x : Classed). record { basis = a .basis; count = a .count + 1; all = set (a .all) (a .count) x }) is-judged)
+    more = rw (lt-leb 15 (a .count) h) (ap (λ (x : Classed). record { prepared = a .prepared; count = a .count + 1; all = set (a .all) (a .count) x }) is-judged)
 
 returns : tie.Need-returns
 returns c = search full

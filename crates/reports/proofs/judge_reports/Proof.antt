@@ -51,6 +51,7 @@ use Rattle.table.specs.Table.{tableOf}
 use Rattle.common.specs.Common.{commonOf}
 use Rattle.judge.specs.declared.Judgement.{Judgement}
 use Rattle.judge.specs.Judgement.{conclusion, judgement}
+use Rattle.judge.specs.Lent.{Judgeable}
 use Rattle.judge.proofs.Judgement as J
 use Rattle.judge.proofs.Judgement.Laws as J′
 use Rattle.reports.specs.declared.Told.{Told}
@@ -113,8 +114,8 @@ abbrev stayed : Stays (judge-reports.ended .signature .params) (judge-reports.en
 stayed = (stay-none (λ _. B.the-row) yes, (stay-none-slice (0 ∷ []) tt (plain (λ _. T.the-row)) yes, tt))
 
 -- what the passes give of what was judged
-abbrev concluded : Judging → Judgement
-concluded s = conclusion (tableOf (s .basis .table)) (commonOf (s .basis .common)) (take (s .count) (s .all))
+abbrev concluded : Basis → Judging → Judgement
+concluded a s = conclusion (tableOf (a .table)) (commonOf (a .common)) (take (s .count) (s .all))
 
 -- the contracts that the proof cites, and of what each ensures the clause alone
 module _ {M : Type 1} (𝓤 : URA M) (H : Heap 𝓤) (A : Atoms 𝓤) (at-mem : Memory → SProp 𝓤) (run : Routine → Fun 𝓤) where
@@ -133,8 +134,8 @@ module _ {M : Type 1} (𝓤 : URA M) (H : Heap 𝓤) (A : Atoms 𝓤) (at-mem : 
   abbrev Conclude : Contract 𝓤
   Conclude = tripleOf 𝓤 H A conclude.signature (conclude.spec 𝓤 H A at-mem run)
 
-  concluded-of : (s : Judging) (r : Judgement) → ent 𝓤 (ensured 𝓤 H A conclude.ended (conclude.clauses 𝓤 H A at-mem run) tt (s, tt) tt r) (fact 𝓤 (r ≡ concluded s))
-  concluded-of s r = exE 𝓤 _ (λ ws. snd∗ 𝓤 (sem 𝓤 H A (lasts conclude.ended tt (s, tt) ws)) (fact 𝓤 (r ≡ concluded s)))
+  concluded-of : (a : Basis) (s : Judging) (r : Judgement) → ent 𝓤 (ensured 𝓤 H A conclude.ended (conclude.clauses 𝓤 H A at-mem run) tt (a, (s, tt)) tt r) (fact 𝓤 (r ≡ concluded a s))
+  concluded-of a s r = exE 𝓤 _ (λ ws. snd∗ 𝓤 (sem 𝓤 H A (lasts conclude.ended tt (a, (s, tt)) ws)) (fact 𝓤 (r ≡ concluded a s)))
 
 module _ {M : Type 1} (𝓤 : URA M) (H : Heap 𝓤) (A : Atoms 𝓤) (W : Given 𝓤 H A) (at-mem : Memory → SProp 𝓤) (run : Routine → Fun 𝓤) (κ : Lft) (q : Share) (a : Basis) (b o : ℕ) (γ : GName) (xs : List Told)
     (isA : IsB a) (ready : Ready a) where
@@ -170,22 +171,23 @@ module _ {M : Type 1} (𝓤 : URA M) (H : Heap 𝓤) (A : Atoms 𝓤) (W : Given
 
   goes-begin : ent 𝓤 (sem 𝓤 H A ftrue) (Begin 𝓤 H A at-mem run .pre to-begin)
   goes-begin =
-      qed W (‵ ftrue ∷ []) ∵ owned ! B.the-row (Is B.the-row) ((LL.makes B.the-type B′.the-plain) 𝓤 H A) a _ isA $ join ! $ nothing ! $ join ! $ frame ! $ done !
+      qed W (‵ ftrue ∷ []) ∵ says ! ready $ owned ! B.the-row (Is B.the-row) ((LL.makes B.the-type B′.the-plain) 𝓤 H A) a _ isA $ join ! $ nothing ! $ join ! $ done !
 
   abbrev to-next : Judging → Told → Next 𝓤 H A at-mem run .Ghost
   to-next s h = ((tt, tt, tt, (s, (h, tt)), (G′.lowered s ∷ [], (T′.lowered h ∷ [], tt))), tt)
 
-  goes-next : (s : Judging) (h : Told) → Ready (s .basis) → IsG s → IsT h → ent 𝓤 (sem 𝓤 H A ftrue) (Next 𝓤 H A at-mem run .pre (to-next s h))
+  goes-next : (s : Judging) (h : Told) → Judgeable (s .prepared .before) → IsG s → IsT h → ent 𝓤 (sem 𝓤 H A ftrue) (Next 𝓤 H A at-mem run .pre (to-next s h))
   goes-next s h ok isS is =
       qed W (‵ ftrue ∷ []) ∵ says ! ok $ owned ! T.the-row (Is T.the-row) ((LL.makes T.the-type T′.the-plain) 𝓤 H A) h _ is $ join ! $
       owned ! G.the-row (Is G.the-row) ((LL.makes G.the-type G′.the-plain) 𝓤 H A) s _ isS $ join ! $ nothing ! $ join ! $ done !
 
   abbrev to-conclude : Judging → Conclude 𝓤 H A at-mem run .Ghost
-  to-conclude s = ((tt, tt, tt, (s, tt), (G′.lowered s ∷ [], tt)), tt)
+  to-conclude s = ((tt, tt, tt, (a, (s, tt)), (B′.lowered a ∷ [], (G′.lowered s ∷ [], tt))), tt)
 
-  goes-conclude : (s : Judging) → Ready (s .basis) × (s .count ≤ 15) → IsG s → ent 𝓤 (sem 𝓤 H A ftrue) (Conclude 𝓤 H A at-mem run .pre (to-conclude s))
-  goes-conclude s ok isS =
-      qed W (‵ ftrue ∷ []) ∵ says ! ok $ owned ! G.the-row (Is G.the-row) ((LL.makes G.the-type G′.the-plain) 𝓤 H A) s _ isS $ join ! $ nothing ! $ join ! $ done !
+  goes-conclude : (s : Judging) → s .count ≤ 15 → IsG s → ent 𝓤 (sem 𝓤 H A ftrue) (Conclude 𝓤 H A at-mem run .pre (to-conclude s))
+  goes-conclude s few isS =
+      qed W (‵ ftrue ∷ []) ∵ says ! (ready, few) $ owned ! G.the-row (Is G.the-row) ((LL.makes G.the-type G′.the-plain) 𝓤 H A) s _ isS $ join ! $
+      owned ! B.the-row (Is B.the-row) ((LL.makes B.the-type B′.the-plain) 𝓤 H A) a _ isA $ join ! $ nothing ! $ join ! $ done !
 
   module _ (𝓣 : Tables 𝓤 H) (known-begin : Triple 𝓤 (𝓣 .C #begin) (Begin 𝓤 H A at-mem run)) (known-next : Triple 𝓤 (𝓣 .C #next) (Next 𝓤 H A at-mem run))
       (known-conclude : Triple 𝓤 (𝓣 .C #conclude) (Conclude 𝓤 H A at-mem run)) (g : Room T.the-row n) (l₀ l₁ l₂ l₃ l₄ l₅ l₆ l₇ l₈ : ℕ) where
@@ -222,7 +224,7 @@ module _ {M : Type 1} (𝓤 : URA M) (H : Heap 𝓤) (A : Atoms 𝓤) (W : Given
       Left = afterBlock 𝓤 H (afterSeq 𝓤 H (Wp 𝓤 H C Λ En piece.t-4 (atReturn 𝓤 H En Post)) (atReturn 𝓤 H En Post))
 
       -- a turn that judges one report
-      more : (i : ℕ) (s : Judging) (X : SProp 𝓤) → i < n → Ready (s .basis) → IsG s → ((r : Judging) → r ≡ with-next s (getD xs i none) → IsG r → ent 𝓤 (⋆ 𝓤 H A (At (i + 1) r)) X) → ent 𝓤 (⋆ 𝓤 H A (At i s)) (Wp 𝓤 H C Λ En piece.turn-1 (afterTurn 𝓤 H X Left))
+      more : (i : ℕ) (s : Judging) (X : SProp 𝓤) → i < n → Judgeable (s .prepared .before) → IsG s → ((r : Judging) → r ≡ with-next s (getD xs i none) → IsG r → ent 𝓤 (⋆ 𝓤 H A (At (i + 1) r)) X) → ent 𝓤 (⋆ 𝓤 H A (At i s)) (Wp 𝓤 H C Λ En piece.turn-1 (afterTurn 𝓤 H X Left))
       unfolding afterTurn
       more i s X l ok isS k =
           let h = getD xs i none in
@@ -267,10 +269,11 @@ module _ {M : Type 1} (𝓤 : URA M) (H : Heap 𝓤) (A : Atoms 𝓤) (W : Given
           assigns ! (bin ! (load ! (from ! (stop !)) (look ! 2 refl)) (load ! (from ! (stop !)) (look ! 3 refl)) tt) (from ! (stop !)) (init ! 4 refl (tt, tt)) $
           rewrite ! 4 (λ (c : Bool). ‵ (fat fullShare tyBool l₆ 0 (vbool c))) (le-ltb n n (omega arith)) refl $
           leaves-loop ! (load ! (from ! (stop !)) (look ! 4 refl)) $ exec ! C Λ En piece.t-4 (atRet En Post) $
-          nothing ! $ use1 W (raw (Conclude 𝓤 H A at-mem run .pre (to-conclude s))) (goes-conclude s asked isS) $
-          calls-at ! (fmOf 𝓤 H (W .laws) 𝓣) (Conclude 𝓤 H A at-mem run) known-conclude (to-conclude s) (and-then ! (load ! (from ! (stop !)) (look ! 2 refl)) (no-more !)) (λ v.
-          use1 W (later (some (λ (r : Judgement). (‵ ftrue ⊛ ‵ (J.the-row .own r (v ∷ []))) ⊛ raw (ensured 𝓤 H A conclude.ended (conclude.clauses 𝓤 H A at-mem run) tt (s, tt) tt r)))) (id⊢ 𝓤 _) $ await ! tt $ pick ! (λ r.
-          split ! $ move ! (1 ∷ []) $ use1 W (raw (fact 𝓤 (r ≡ concluded s))) (concluded-of 𝓤 H A at-mem run s r) $ heard ! (r ≡ concluded s) (λ f. split ! $ drop ! $
+          nothing ! $ use1 W (raw (Conclude 𝓤 H A at-mem run .pre (to-conclude s))) (goes-conclude s few isS) $
+          calls-at ! (fmOf 𝓤 H (W .laws) 𝓣) (Conclude 𝓤 H A at-mem run) known-conclude (to-conclude s)
+          (and-then ! (load ! (from ! (stop !)) (look ! 9 refl)) (and-then ! (load ! (from ! (stop !)) (look ! 2 refl)) (no-more !))) (λ v.
+          use1 W (later (some (λ (r : Judgement). (‵ ftrue ⊛ ‵ (J.the-row .own r (v ∷ []))) ⊛ raw (ensured 𝓤 H A conclude.ended (conclude.clauses 𝓤 H A at-mem run) tt (a, (s, tt)) tt r)))) (id⊢ 𝓤 _) $ await ! tt $ pick ! (λ r.
+          split ! $ move ! (1 ∷ []) $ use1 W (raw (fact 𝓤 (r ≡ concluded a s))) (concluded-of 𝓤 H A at-mem run a s r) $ heard ! (r ≡ concluded a s) (λ f. split ! $ drop ! $
           peeks ! J.the-row (Is J.the-row) (shows 𝓤 H A J.the-row) r (v ∷ []) (λ isr.
           -- [what the result owns; the row; _3; _4; _5; _6; _7; _8; _2; _1; _0; what shuts; ..]
           land ! (from ! (stop !)) (init ! 10 refl (LL.lawful J.the-type J′.the-laws 𝓤 H A W .typed r _ isr .0)) $
@@ -280,10 +283,10 @@ module _ {M : Type 1} (𝓤 : URA M) (H : Heap 𝓤) (A : Atoms 𝓤) (W : Given
           returns ! (look ! 9 refl) $ forget ! 1 refl $ forget ! 2 refl $ forget ! 3 refl $ forget ! 4 refl $ forget ! 7 refl $ forget ! 8 refl $ forget ! 9 refl $
           move ! (9 ∷ 11 ∷ []) $ free1 ! $ move ! (8 ∷ 10 ∷ []) $ free1 ! $ move ! (7 ∷ 9 ∷ []) $ free1 ! $ move ! (1 ∷ 8 ∷ []) $ free1 ! $ move ! (1 ∷ 7 ∷ []) $ free1 ! $
           move ! (1 ∷ 6 ∷ []) $ free1 ! $ move ! (1 ∷ 5 ∷ []) $ free1 ! $ move ! (1 ∷ 4 ∷ []) $ free1 ! $ move ! (1 ∷ 3 ∷ []) $ free1 ! $ free0 ! $
-          by ! (exits r (f ∙ ap concluded e ∙ list.whole a xs) (subst (Is J.the-row r) (J′.lowers .val-is r (v ∷ []) isr) isr))))))
+          by ! (exits r (f ∙ ap (concluded a) e ∙ list.whole a ready xs) (subst (Is J.the-row r) (J′.lowers .val-is r (v ∷ []) isr) isr))))))
         where
-          asked : Ready (s .basis) × (s .count ≤ 15)
-          asked = subst (λ (s : Judging). Ready (s .basis) × (s .count ≤ 15)) (sym e) (ready, list.few a xs)
+          few : s .count ≤ 15
+          few = subst (λ (s : Judging). s .count ≤ 15) (sym e) (list.few a xs)
 
       into : (k i : ℕ) (s : Judging) → Facts k i s → ent 𝓤 (⋆ 𝓤 H A (At i s)) (Inv k)
       into k i s f =
@@ -300,7 +303,7 @@ module _ {M : Type 1} (𝓤 : URA M) (H : Heap 𝓤) (A : Atoms 𝓤) (W : Given
           subst (λ (j : ℕ). ent 𝓤 (⋆ 𝓤 H A (At j s)) (Wp 𝓤 H C Λ En piece.turn-1 (afterTurn 𝓤 H (Below zero) Left))) e
           (ends s (Below zero) (f .1 .0 ∙ ap (list.so-far a) (take-all i xs (omega arith))) (f .1 .1))
       turn-at (suc k) i s f =
-          more i s (Below (suc k)) (omega arith) (subst (λ (s : Judging). Ready (s .basis)) (sym (f .1 .0)) ready) (f .1 .1) (λ r e is. below (suc k) k (i + 1) r (omega arith)
+          more i s (Below (suc k)) (omega arith) (subst (λ (s : Judging). Judgeable (s .prepared .before)) (sym (f .1 .0)) (list.may-judge a ready (take i xs))) (f .1 .1) (λ r e is. below (suc k) k (i + 1) r (omega arith)
           (omega arith, (e ∙ ap (λ (u : Judging). with-next u (getD xs i none)) (f .1 .0) ∙ list.turned a xs i none (omega arith), is)))
 
       turns : (k : ℕ) → ent 𝓤 (Inv k) (Wp 𝓤 H C Λ En piece.turn-1 (afterTurn 𝓤 H (Below k) Left))

@@ -11,11 +11,11 @@ use Rattle.judge.proofs.entries.judge_entries.Statement.{statement}
 use Rattle.judge.proofs.entries.judge_entries.Tie as tie
 
 abbrev Inv-loop : tie.InvT-loop
-Inv-loop longest slack tasks earliest b n entries all₀ i₀ all i =
-    Filled (λ p. classed-at longest slack tasks earliest b (entryOf (p .entry))) 15 no-class entries n i all
+Inv-loop ends b n entries all₀ i₀ all i =
+    Filled (λ p. classed-at ends b (entryOf (p .entry))) 15 no-class entries n i all
 
 abbrev μ-loop : tie.MeasureT-loop
-μ-loop longest slack tasks earliest b n entries all₀ i₀ all i = n - i
+μ-loop ends b n entries all₀ i₀ all i = n - i
 
 none-classed-requires : tie.Need-none-classed-requires Inv-loop μ-loop
 none-classed-requires c κs = search needs

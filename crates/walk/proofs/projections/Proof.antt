@@ -1,0 +1,122 @@
+-- The loop of `projections`: the first k ends stand in their places, the sum so far is the next, and it is small.
+use mathlib.Core.Path.{_≡_, sym, ap, _∙_}
+use mathlib.Core.List.{List, []}
+use Prim.Native.Nat.{ℕ, _+_, _-_, _*_, _^_, _≤_, _<_}
+use native.Mathlib.Omega.{arith}
+use borrow.Author.Needs.{needs}
+use lib.ListN.{getD, set}
+use Rattle.laws.specs.Lists.{rows, pad}
+use Rattle.laws.proofs.Rows.{no-rows, store-row}
+use Rattle.common.specs.Raw.{projected-at, Summable}
+use Rattle.walk.specs.Walk.{ends-of}
+use Rattle.common.proofs.Arrays.{projected-none, projected-next}
+use Rattle.walk.proofs.projections.Statement.{statement}
+use Rattle.walk.proofs.projections.Tie as tie
+
+record Inv (longest tasks : List ℕ) (start n : ℕ) (ends : List ℕ) (end k : ℕ) : Type 0 where
+  ready : Summable longest tasks start n
+  to : k ≤ n
+  stored : ends ≡ pad 257 0 (rows (projected-at longest tasks start) k)
+  is : end ≡ projected-at longest tasks start k
+  below : end ≤ start + k * 4294967295
+
+module _ {longest tasks : List ℕ} {start n : ℕ} where
+  inv-start : Summable longest tasks start n → {ends : List ℕ} → ends ≡ pad 257 0 [] → Inv longest tasks start n ends start 0
+  inv-start s e = record { ready = s; to = omega arith; stored = no-rows _ 257 0 e; is = sym (projected-none longest tasks start); below = omega arith }
+
+  module _ {ends : List ℕ} {end k : ℕ} (v : Inv longest tasks start n ends end k) where
+    inv-end : n ≤ k → set ends k end ≡ ends-of longest tasks start n
+    inv-end h =
+        let e : n ≡ k = omega (arith, v .to) in
+        rw e (store-row _ 257 0 (v .stored) (omega (arith, v .ready .few, v .to)) (v .is))
+
+    inv-place : k < 257
+    inv-place = omega (arith, v .ready .few, v .to)
+
+    module _ (h : k < n) {i : ℕ} (e : i ≡ getD tasks k 0) where
+      inv-known : i < 64
+      inv-known = omega (arith, e, v .ready .known k h)
+
+      small : getD longest i 0 ≤ 4294967295
+      small = rw e (v .ready .small k h)
+
+      inv-sum : end + getD longest i 0 < 2 ^ 64
+      inv-sum = omega (arith, small, v .below, v .ready .few, v .ready .soon)
+
+      inv-next : Inv longest tasks start n (set ends k end) (end + getD longest i 0) (k + 1)
+      inv-next = record {
+        ready = v .ready;
+        to = omega arith;
+        stored = store-row _ 257 0 (v .stored) inv-place (v .is);
+        is = omega (arith, v .is, projected-next longest tasks start k, ap (λ (x : ℕ). getD longest x 0) e);
+        below = omega (arith, v .below, small);
+      }
+
+abbrev Inv-loop : tie.InvT-loop
+Inv-loop longest tasks start n ends₀ end₀ k₀ ends end k = Inv longest tasks start n ends end k
+
+abbrev μ-loop : tie.MeasureT-loop
+μ-loop longest tasks start n ends₀ end₀ k₀ ends end k = n - k
+
+no-ends-requires : tie.Need-no-ends-requires Inv-loop μ-loop
+no-ends-requires c κs = search needs
+
+loop-holds : tie.Need-loop-holds Inv-loop μ-loop
+loop-holds c = search inv-start
+
+mul-ends : tie.Need-mul-ends Inv-loop μ-loop
+mul-ends c = search (needs, inv-place)
+
+array-write-ends : tie.Need-array-write-ends Inv-loop μ-loop
+array-write-ends c = search (needs, inv-place)
+
+task-at-requires : tie.Need-task-at-requires Inv-loop μ-loop
+task-at-requires c κs = search needs
+
+mul-end : tie.Need-mul-end Inv-loop μ-loop
+mul-end c = search (needs, inv-known)
+
+element-copy-out-end : tie.Need-element-copy-out-end Inv-loop μ-loop
+element-copy-out-end c = search (needs, inv-known)
+
+add-end : tie.Need-add-end Inv-loop μ-loop
+add-end c = search inv-sum
+
+add-k : tie.Need-add-k Inv-loop μ-loop
+add-k c = search needs
+
+loop-less : tie.Need-loop-less Inv-loop μ-loop
+loop-less c = search needs
+
+loop-again : tie.Need-loop-again Inv-loop μ-loop
+loop-again c = search inv-next
+
+mul-ends-2 : tie.Need-mul-ends-2 Inv-loop μ-loop
+mul-ends-2 c = search (needs, inv-place)
+
+array-write-ends-2 : tie.Need-array-write-ends-2 Inv-loop μ-loop
+array-write-ends-2 c = search (needs, inv-place)
+
+returns : tie.Need-returns Inv-loop μ-loop
+returns c = search inv-end
+
+pub projections-spec : {M : Type 1} → statement M
+projections-spec =
+    tie.close
+    (tie.spec
+    Inv-loop
+    μ-loop
+    no-ends-requires
+    loop-holds
+    mul-ends
+    array-write-ends
+    task-at-requires
+    mul-end
+    element-copy-out-end
+    add-end
+    add-k
+    loop-less
+    loop-again
+    mul-ends-2
+    array-write-ends-2
+    returns)
