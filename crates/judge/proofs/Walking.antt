@@ -1,5 +1,5 @@
 -- The walk over the order may be asked of a checked table and a record that was given back, and what it answers.
-use mathlib.Core.Path.{_≡_, ap, ap₂, _∙_}
+use mathlib.Core.Path.{_≡_, ap, _∙_}
 use mathlib.Core.List.{List}
 use Prim.Native.Nat.{ℕ, _+_, _-_, _^_, _≤_, _<_}
 use native.Mathlib.Omega.{arith}
@@ -17,7 +17,6 @@ use Rattle.laws.proofs.First.{first-says}
 use Rattle.walk.specs.Walk.{broken-by, Ended}
 use Rattle.walk.proofs.Ends.{ended-by}
 use Rattle.judge.specs.declared.class.Before.{Before}
-use Rattle.judge.specs.declared.Prepared.{Prepared}
 use Rattle.judge.specs.Lent.{projections-of, clear-places, before, prepared}
 
 module _ {t : Table} {c : Common} (k : Checked t) (g : Given t c) where

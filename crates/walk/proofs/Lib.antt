@@ -2,3 +2,4 @@
 pub mod Ends
 pub mod Bounds
 pub mod Past
+pub mod Settled

@@ -1,11 +1,15 @@
-// One walk a round: projections, limits, and the first position that breaks the bound.
+// One walk a round over the order: the projections of all positions, the latest end that a job of each task may have, and the first place that breaks the
+// bound. Places count from 0: place n is position B + n + 1.
 ghost use mathlib.Core.Path.{_≡_};
 ghost use mathlib.Core.List.{[]};
-ghost use Prim.Native.Nat.{_+_, _^_, _≤_, _<_, min};
+ghost use Prim.Native.Nat.{_+_, _≤_, _<_, min};
 ghost use Rattle.laws.specs.Lists.{pad};
-ghost use Rattle.common.specs.Raw.{Summable, Boundable};
 ghost use Rattle.laws.specs.Search.{first-from};
+ghost use Rattle.common.specs.Raw.{Summable, Boundable};
 ghost use Rattle.walk.specs.Walk.{ends-of, limits-of, passes-limit, broken-by, Ended};
+
+// Later than any end: the limit where there is no task of higher priority.
+const NEVER: u64 = 9223372036854775808;
 
 fn smaller(a: usize, b: usize) -> usize
     ensures { λ r. ⌜ r ≡ min a b ⌝ }
@@ -37,7 +41,7 @@ fn no_limits() -> [u64; 65]
     [0; 65]
 }
 
-// "W plus the C of every job", of B and of each of the n positions past it.
+// "W plus the C of every job", of B and of each of the n positions past it, in one pass that carries the sum along.
 pub fn projections<'a>(
     longest: &'a [u64; 64],
     tasks: &'a [u8; 256],
@@ -60,13 +64,14 @@ pub fn projections<'a>(
     ends
 }
 
-// The latest end that a job of each task may have: the least, over the tasks of higher priority, of earliest release plus slack.
-pub fn limits<'a>(earliest: &'a [u64; 64], slack: &'a [u64; 64], count: usize, t: u64) -> [u64; 65]
+// "projection(p) ≤ earliest release of i at t, plus S(i)", for every task i of higher priority: the latest end that a job of each task may have, in one pass
+// that carries the least along.
+fn limits<'a>(earliest: &'a [u64; 64], slack: &'a [u64; 64], count: usize, t: u64) -> [u64; 65]
     requires { ⌜ Boundable (now earliest) (now slack) count t ⌝ }
     ensures { λ r. ⌜ r ≡ limits-of (now (earliest .entry)) (now (slack .entry)) count t ⌝ }
 {
     let mut limits = no_limits();
-    let mut low = 9223372036854775808;
+    let mut low = NEVER;
     let mut i = 0;
     while i < count {
         limits[i] = low;
@@ -118,6 +123,6 @@ pub fn first_break<'a>(
     requires { ⌜ from ≤ kept ⌝ }
     ensures { λ r. ⌜ r ≡ first-from (broken-by (now (ends .entry)) (now (slack .entry)) (now (tasks .entry)) (now (earliest .entry)) count t) from kept ⌝ }
 {
-    let limits = limits(earliest, slack, count, t);
-    first_past(ends, &limits, tasks, count, from, kept)
+    let latest = limits(earliest, slack, count, t);
+    first_past(ends, &latest, tasks, count, from, kept)
 }

@@ -1,9 +1,7 @@
 -- The numbers of 1 are in range, and the first task that breaks a rule is the one that the pass found.
 use mathlib.Core.Path.{_≡_, sym, ap, _∙_}
 use mathlib.Core.Bool.{Bool, true, false, not}
-use mathlib.Core.Option.{Option, none, some}
-use Prim.Native.Nat.{ℕ, _+_, _≤_, _<_}
-use native.Mathlib.Omega.{arith}
+use Prim.Native.Nat.{ℕ, _≤_, _<_}
 use borrow.Author.Needs.{needs}
 use borrow.Author.Tests.{ltb-false}
 use Rattle.laws.specs.Search.{first-from}
@@ -12,7 +10,7 @@ use Rattle.laws.proofs.First.{first-same, first-lowest, first-none}
 use Rattle.rules.specs.Table.{out-of-range, check}
 use Rattle.table.specs.declared.Table.{Table}
 use Rattle.table.specs.declared.TableCheck.the-variants.{Passes, OutOfRange, Broken}
-use Rattle.table.specs.Table.{row, tableOf}
+use Rattle.table.specs.Table.{tableOf}
 use Rattle.table.specs.Check.{answerOf, first-breaking}
 use Rattle.table.proofs.Rules.{breaks-rule, keeps-is, out-refused, rule-refused, all-kept}
 use Rattle.table.proofs.check_table.Statement.{statement}

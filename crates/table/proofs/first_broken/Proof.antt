@@ -1,5 +1,5 @@
 -- The loop of `first_broken`: the first of the tasks from i on that breaks a rule, and the largest C of them.
-use mathlib.Core.Path.{_≡_, refl, sym, ap, _∙_}
+use mathlib.Core.Path.{_≡_, sym, ap}
 use mathlib.Core.Bool.{Bool, not}
 use mathlib.Core.List.{List}
 use Prim.Native.Nat.{ℕ, _+_, _-_, _≤_, _<_, max}

@@ -1,56 +1,46 @@
--- The loop of `projections`: the first k ends stand in their places, the sum so far is the next, and it is small.
-use mathlib.Core.Path.{_≡_, sym, ap, _∙_}
+-- The loop of `projections`: the first k ends stand in their places, and the sum so far is the next.
+use mathlib.Core.Path.{_≡_}
 use mathlib.Core.List.{List, []}
-use Prim.Native.Nat.{ℕ, _+_, _-_, _*_, _^_, _≤_, _<_}
+use Prim.Native.Nat.{ℕ, _+_, _-_, _^_, _≤_, _<_}
 use native.Mathlib.Omega.{arith}
 use borrow.Author.Needs.{needs}
 use lib.ListN.{getD, set}
 use Rattle.laws.specs.Lists.{rows, pad}
 use Rattle.laws.proofs.Rows.{no-rows, store-row}
 use Rattle.common.specs.Raw.{projected-at, Summable}
+use Rattle.common.proofs.Summing.{Summed, summed-start, summed-known, summed-fits, summed-next}
 use Rattle.walk.specs.Walk.{ends-of}
-use Rattle.common.proofs.Arrays.{projected-none, projected-next}
 use Rattle.walk.proofs.projections.Statement.{statement}
 use Rattle.walk.proofs.projections.Tie as tie
 
 record Inv (longest tasks : List ℕ) (start n : ℕ) (ends : List ℕ) (end k : ℕ) : Type 0 where
-  ready : Summable longest tasks start n
-  to : k ≤ n
+  sum : Summed longest tasks start n end k
   stored : ends ≡ pad 257 0 (rows (projected-at longest tasks start) k)
-  is : end ≡ projected-at longest tasks start k
-  below : end ≤ start + k * 4294967295
 
 module _ {longest tasks : List ℕ} {start n : ℕ} where
   inv-start : Summable longest tasks start n → {ends : List ℕ} → ends ≡ pad 257 0 [] → Inv longest tasks start n ends start 0
-  inv-start s e = record { ready = s; to = omega arith; stored = no-rows _ 257 0 e; is = sym (projected-none longest tasks start); below = omega arith }
+  inv-start s e = record { sum = summed-start s; stored = no-rows _ 257 0 e }
 
   module _ {ends : List ℕ} {end k : ℕ} (v : Inv longest tasks start n ends end k) where
+    inv-place : k < 257
+    inv-place = omega (arith, v .sum .ready .few, v .sum .to)
+
+    inv-stored : set ends k end ≡ pad 257 0 (rows (projected-at longest tasks start) (k + 1))
+    inv-stored = store-row _ 257 0 (v .stored) inv-place (v .sum .is)
+
     inv-end : n ≤ k → set ends k end ≡ ends-of longest tasks start n
     inv-end h =
-        let e : n ≡ k = omega (arith, v .to) in
-        rw e (store-row _ 257 0 (v .stored) (omega (arith, v .ready .few, v .to)) (v .is))
+        let e : n ≡ k = omega (arith, v .sum .to) in
+        rw e inv-stored
 
-    inv-place : k < 257
-    inv-place = omega (arith, v .ready .few, v .to)
+    inv-known : k < n → {i : ℕ} → i ≡ getD tasks k 0 → i < 64
+    inv-known = summed-known (v .sum)
 
-    module _ (h : k < n) {i : ℕ} (e : i ≡ getD tasks k 0) where
-      inv-known : i < 64
-      inv-known = omega (arith, e, v .ready .known k h)
+    inv-fits : k < n → {i : ℕ} → i ≡ getD tasks k 0 → end + getD longest i 0 < 2 ^ 64
+    inv-fits = summed-fits (v .sum)
 
-      small : getD longest i 0 ≤ 4294967295
-      small = rw e (v .ready .small k h)
-
-      inv-sum : end + getD longest i 0 < 2 ^ 64
-      inv-sum = omega (arith, small, v .below, v .ready .few, v .ready .soon)
-
-      inv-next : Inv longest tasks start n (set ends k end) (end + getD longest i 0) (k + 1)
-      inv-next = record {
-        ready = v .ready;
-        to = omega arith;
-        stored = store-row _ 257 0 (v .stored) inv-place (v .is);
-        is = omega (arith, v .is, projected-next longest tasks start k, ap (λ (x : ℕ). getD longest x 0) e);
-        below = omega (arith, v .below, small);
-      }
+    inv-next : k < n → {i : ℕ} → i ≡ getD tasks k 0 → Inv longest tasks start n (set ends k end) (end + getD longest i 0) (k + 1)
+    inv-next h e = record { sum = summed-next (v .sum) h e; stored = inv-stored }
 
 abbrev Inv-loop : tie.InvT-loop
 Inv-loop longest tasks start n ends₀ end₀ k₀ ends end k = Inv longest tasks start n ends end k
@@ -80,7 +70,7 @@ element-copy-out-end : tie.Need-element-copy-out-end Inv-loop μ-loop
 element-copy-out-end c = search (needs, inv-known)
 
 add-end : tie.Need-add-end Inv-loop μ-loop
-add-end c = search inv-sum
+add-end c = search inv-fits
 
 add-k : tie.Need-add-k Inv-loop μ-loop
 add-k c = search needs
