@@ -1,6 +1,6 @@
 # make test: the gate. make run: proves and builds what it needs, and runs the worked canal.
 # make trials, make trials-doors, make trials-selftest and make bench are no part of the gate; the gate has a short run of the trials.
-.PHONY: test run trials trials-doors trials-selftest bench bench-doors rust session cabinet library examples drill guide picture
+.PHONY: test run trials trials-doors trials-selftest bench bench-doors bench-growth rust session cabinet library examples drill guide picture
 
 test:
 	@./.ci/gate
@@ -76,3 +76,18 @@ bench: session rust bench-doors
 bench-doors: library
 	@$(linked) -p bench --features doors --bin bench-doors
 	@rust/target/release/bench-doors
+
+# How the time of a close grows. BEFORE: a folder with an earlier libcabinet.a, which is then measured beside ours; both as shared objects, so that
+# both are called alike, and each with its calls to itself bound to itself. For longer: make bench-growth GROWTH='--times 61'
+GROWTH ?=
+shared = gcc -shared -Wl,-Bsymbolic -o target/growth/$(1).so -Wl,--whole-archive $(2)/libcabinet.a -Wl,--no-whole-archive
+bench-growth: library
+	@$(linked) -p bench --features doors --bin bench-growth
+ifdef BEFORE
+	@mkdir -p target/growth
+	@$(call shared,before,$(BEFORE))
+	@$(call shared,after,$(LIB))
+	@rust/target/release/bench-growth --before target/growth/before.so --after target/growth/after.so $(GROWTH)
+else
+	@rust/target/release/bench-growth $(GROWTH)
+endif

@@ -6,14 +6,14 @@ use reference::written::{push_number, record_bytes};
 use reference::{close, Common, Record, Release, Report, Table, Task};
 
 /// A session being made: its bytes so far, and the record that they give.
-struct Making {
-    table: Table,
-    common: Common,
+pub(crate) struct Making {
+    pub(crate) table: Table,
+    pub(crate) common: Common,
     bytes: Vec<u8>,
 }
 
 impl Making {
-    fn new(nodes: u64, timeout: u64, tasks: &[Task]) -> Making {
+    pub(crate) fn new(nodes: u64, timeout: u64, tasks: &[Task]) -> Making {
         let mut numbers = vec![nodes, timeout, tasks.len() as u64];
         for task in tasks {
             numbers.extend([task.execution, task.distance, task.deadline, task.slack]);
@@ -26,14 +26,19 @@ impl Making {
         Making { table, common: Common::fresh(), bytes }
     }
 
-    fn close(&mut self, record: &Record) {
+    pub(crate) fn close(&mut self, record: &Record) {
         close(&self.table, &mut self.common, record)
             .unwrap_or_else(|refusal| panic!("{record:?} was refused: {refusal:?}"));
         self.bytes.extend(record_bytes(record).expect("a record that can be written"));
     }
 
+    /// What was made, and the record that comes next.
+    pub(crate) fn ready(self, record: Record) -> Ready {
+        Ready { table: self.table, common: self.common, record }
+    }
+
     /// A report at a position, as early as the order lets it be complete.
-    fn report(&self, r: u64, progress: u64, run: u64) -> Report {
+    pub(crate) fn report(&self, r: u64, progress: u64, run: u64) -> Report {
         Report { progress, completion: self.common.projection(&self.table, progress).min(r), run }
     }
 
@@ -87,22 +92,22 @@ pub fn full(rounds: u64) -> Vec<u8> {
     making.bytes
 }
 
-/// A table, a common record with a full order, and the record that comes next.
-pub struct Full {
+/// A table, a common record, and the record that comes next.
+pub struct Ready {
     pub table: Table,
     pub common: Common,
     pub record: Record,
 }
 
 /// The full order after so many rounds.
-pub fn full_state(rounds: u64) -> Full {
+pub fn full_state(rounds: u64) -> Ready {
     let mut making = Making::crowd();
     for round in 0..rounds {
         let record = making.crowded_record(round);
         making.close(&record);
     }
     let record = making.crowded_record(rounds);
-    Full { table: making.table, common: making.common, record }
+    making.ready(record)
 }
 
 impl Making {

@@ -7,7 +7,7 @@ use std::path::{Path, PathBuf};
 use std::process::{Command, ExitCode, Stdio};
 use std::time::{Duration, Instant};
 
-use bench::{machine, rounds};
+use bench::{machine, median, rounds};
 
 const HELP: &str = "\
 bench PROGRAM [--reference PROGRAM] [--rounds N] [--times N]
@@ -121,13 +121,9 @@ struct Taken {
 
 impl Taken {
     fn median(all: &[Taken]) -> Taken {
-        let middle = |mut times: Vec<Duration>| {
-            times.sort();
-            times[times.len() / 2]
-        };
         Taken {
-            clock: middle(all.iter().map(|taken| taken.clock).collect()),
-            processor: middle(all.iter().map(|taken| taken.processor).collect()),
+            clock: median(all.iter().map(|taken| taken.clock).collect()),
+            processor: median(all.iter().map(|taken| taken.processor).collect()),
         }
     }
 
