@@ -32,18 +32,20 @@ module _ {longest tasks : List ℕ} {start n : ℕ} where
         let e : n ≡ k = omega (arith, v .to) in
         rw e (v .is)
 
-    module _ (h : k < n) {i : ℕ} (e : i ≡ getD tasks k 0) where
+    -- of any of the jobs
+    module _ {j i : ℕ} (e : i ≡ getD tasks j 0) (l : j < n) where
       pub summed-known : i < 64
-      summed-known = omega (arith, e, v .ready .known k h)
+      summed-known = omega (arith, e, v .ready .known j l)
 
       pub summed-fits : end + getD longest i 0 < 2 ^ 64
       summed-fits =
-          let small : getD longest i 0 ≤ 4294967295 = rw e (v .ready .small k h) in
+          let small : getD longest i 0 ≤ 4294967295 = rw e (v .ready .small j l) in
           omega (arith, v .is, projected-below (v .ready) k (v .to), v .ready .few, v .ready .soon)
 
-      pub summed-next : Summed longest tasks start n (end + getD longest i 0) (k + 1)
-      summed-next = record {
-        ready = v .ready;
-        to = omega arith;
-        is = omega (arith, v .is, projected-next longest tasks start k, ap (λ (x : ℕ). getD longest x 0) e);
-      }
+    -- of the next
+    pub summed-next : k < n → {i : ℕ} → i ≡ getD tasks k 0 → Summed longest tasks start n (end + getD longest i 0) (k + 1)
+    summed-next h e = record {
+      ready = v .ready;
+      to = omega arith;
+      is = omega (arith, v .is, projected-next longest tasks start k, ap (λ (x : ℕ). getD longest x 0) e);
+    }

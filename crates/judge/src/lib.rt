@@ -16,7 +16,7 @@ ghost use Rattle.table.specs.Table.{tableOf, Checked};
 ghost use Rattle.common.specs.Common.{commonOf, Given};
 ghost use Rattle.round.specs.Round.{entryOf, roundOf};
 ghost use Rattle.judge.specs.Judgement.{conclusion, judgement, Ready};
-ghost use Rattle.judge.specs.Lent.{projections-of, before, prepared, classed-at, Judgeable};
+ghost use Rattle.judge.specs.Lent.{prepared, classed-at, Judgeable};
 
 // The reply's classes, back-runner (15 if none) and notice, and the new B, W and O.
 pub struct Judgement {
@@ -34,17 +34,18 @@ pub struct Prepared {
     pub before: Before,
 }
 
-// "The values of B, W, O, L, E before the round are used", and how far past O the bound is kept at `time`.
-fn before_round(t: Table, c: Common, ends: &[u64; 257], time: u64) -> Before
+// "The values of B, W, O, L, E before the round are used." One walk over the order, once a round: whatever the reports say, the stretch from O + 1 on is
+// the same.
+pub fn prepare(t: Table, c: Common, time: u64) -> Prepared
     requires { ⌜ Checked t ⌝ }
     requires { ⌜ Given t c ⌝ }
     requires { ⌜ time < 2 ^ 48 ⌝ }
-    requires { ⌜ now ends ≡ projections-of t c ⌝ }
-    ensures { λ r. ⌜ r ≡ before t c time ⌝ }
+    ensures { λ r. ⌜ r ≡ prepared t c time ⌝ }
 {
+    let ends = walk::projections(&t.longest, &c.tasks, c.start, c.count);
     let from = (c.offset - c.base) as usize;
     let first = walk::first_break(
-        ends,
+        &ends,
         &t.slack,
         &c.tasks,
         &c.earliest,
@@ -53,25 +54,15 @@ fn before_round(t: Table, c: Common, ends: &[u64; 257], time: u64) -> Before
         from,
         c.count,
     );
-    Before {
+    let clear = c.base + first as u64;
+    let before = Before {
         base: c.base,
         offset: c.offset,
         kept: c.count,
         time,
         timeout: t.timeout,
-        clear: c.base + first as u64,
-    }
-}
-
-// One walk over the order, once a round: whatever the reports say, the stretch from O + 1 on is the same.
-pub fn prepare(t: Table, c: Common, time: u64) -> Prepared
-    requires { ⌜ Checked t ⌝ }
-    requires { ⌜ Given t c ⌝ }
-    requires { ⌜ time < 2 ^ 48 ⌝ }
-    ensures { λ r. ⌜ r ≡ prepared t c time ⌝ }
-{
-    let ends = walk::projections(&t.longest, &c.tasks, c.start, c.count);
-    let before = before_round(t, c, &ends, time);
+        clear,
+    };
     Prepared { ends, before }
 }
 

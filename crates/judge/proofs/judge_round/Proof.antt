@@ -10,7 +10,7 @@ prepare-requires : tie.Need-prepare-requires
 prepare-requires c κs = search needs
 
 judge-entries-requires : tie.Need-judge-entries-requires
-judge-entries-requires c κs = (search judgeable, search few)
+judge-entries-requires c κs = (search judgeable, search (needs, few))
 
 conclude-requires : tie.Need-conclude-requires
 conclude-requires c κs = search (needs, few)

@@ -37,10 +37,14 @@ module _ {earliest slack : List ℕ} {count t : ℕ} where
       inv-known : i < 64
       inv-known = omega (arith, v .ready .few)
 
+      inv-slack : getD slack i 0 < 2 ^ 49
+      inv-slack = omega (arith, v .ready .small i h)
+
       module _ {e : ℕ} (p : e ≡ earliest-of earliest i t) where
-        inv-sum : e + getD slack i 0 < 2 ^ 64
+        -- with any small number for the slack
+        inv-sum : {x : ℕ} → x < 2 ^ 49 → e + x < 2 ^ 64
         unfolding earliest-of
-        inv-sum = omega (arith, p, v .ready .soon i h, v .ready .small i h, v .ready .time)
+        inv-sum l = omega (arith, p, v .ready .soon i h, v .ready .time)
 
         inv-next : {r : ℕ} → r ≡ min (e + getD slack i 0) low → Inv earliest slack count t (set limits i low) r (i + 1)
         unfolding latest-end
@@ -79,7 +83,7 @@ element-copy-out-sooner : tie.Need-element-copy-out-sooner Inv-loop μ-loop
 element-copy-out-sooner c = search (needs, inv-known)
 
 add-sooner : tie.Need-add-sooner Inv-loop μ-loop
-add-sooner c = search inv-sum
+add-sooner c = search (inv-sum, inv-slack)
 
 sooner-requires : tie.Need-sooner-requires Inv-loop μ-loop
 sooner-requires c κs = search needs

@@ -33,10 +33,10 @@ module _ {longest tasks : List ℕ} {start n : ℕ} where
         let e : n ≡ k = omega (arith, v .sum .to) in
         rw e inv-stored
 
-    inv-known : k < n → {i : ℕ} → i ≡ getD tasks k 0 → i < 64
+    inv-known : {j i : ℕ} → i ≡ getD tasks j 0 → j < n → i < 64
     inv-known = summed-known (v .sum)
 
-    inv-fits : k < n → {i : ℕ} → i ≡ getD tasks k 0 → end + getD longest i 0 < 2 ^ 64
+    inv-fits : {j i : ℕ} → i ≡ getD tasks j 0 → j < n → end + getD longest i 0 < 2 ^ 64
     inv-fits = summed-fits (v .sum)
 
     inv-next : k < n → {i : ℕ} → i ≡ getD tasks k 0 → Inv longest tasks start n (set ends k end) (end + getD longest i 0) (k + 1)
@@ -70,7 +70,7 @@ element-copy-out-end : tie.Need-element-copy-out-end Inv-loop μ-loop
 element-copy-out-end c = search (needs, inv-known)
 
 add-end : tie.Need-add-end Inv-loop μ-loop
-add-end c = search inv-fits
+add-end c = search (needs, inv-fits)
 
 add-k : tie.Need-add-k Inv-loop μ-loop
 add-k c = search needs
