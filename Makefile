@@ -1,5 +1,6 @@
 # make test: the gate. make run: proves and builds what it needs, and runs the worked canal.
-# make trials, make trials-doors, make trials-selftest and make bench are no part of the gate; the gate has a short run of the trials.
+# make trials, make trials-doors, make trials-selftest, make bench and make bench-growth are no part of the gate; the gate has a short run of the trials,
+# and makes the calls of bench once for what they answer.
 .PHONY: test run trials trials-doors trials-selftest bench bench-doors bench-growth rust session cabinet library examples drill guide picture
 
 test:

@@ -6,6 +6,9 @@ use reference::{Common, Record, Reply, Report, Table, LATEST_TIME};
 
 use super::Reached;
 
+/// A report with a stretch of so many positions past O is far out.
+const FAR: usize = 64;
+
 impl Reached {
     pub(crate) fn accepted(
         &mut self,
@@ -54,7 +57,9 @@ impl Reached {
         self.note_if(report.progress + report.run == common.length(), "class 0: progress + run at L");
         let owed = report.progress < common.offset() && projection(report.progress + 1) == r;
         self.note_if(owed, "class 0: next projection at r");
-        let exact = stretch(table, common, report)
+        let stretch = stretch(table, common, report);
+        self.note_if(stretch.len() >= FAR, "class 0: 64 positions or more past O");
+        let exact = stretch
             .iter()
             .flat_map(|&job| (0..job.task).map(move |higher| (job, higher)))
             .any(|(job, higher)| job.projection == allowed(table, common, higher, r));
@@ -77,7 +82,8 @@ impl Reached {
 
     fn class_4(&mut self, table: &Table, common: &Common, r: u64, report: Report) {
         let mut breaks = Vec::new();
-        for job in stretch(table, common, report) {
+        let stretch = stretch(table, common, report);
+        for job in &stretch {
             for higher in 0..job.task {
                 let allowed = allowed(table, common, higher, r);
                 if job.projection > allowed {
@@ -96,6 +102,12 @@ impl Reached {
         self.note_if(not_queued, "class 4: only by a task that is not queued");
         let by_run = breaks.iter().all(|&(position, _, _)| position == report.progress + 1);
         self.note_if(report.run == 1 && by_run, "class 4: by run alone");
+        let (first, last) = (breaks[0].0, report.progress + report.run);
+        self.note_if(first == common.offset() + 1, "class 4: first broken at O + 1");
+        let on_the_way = common.offset() + 1 < first && first < last;
+        self.note_if(on_the_way, "class 4: first broken on the way");
+        self.note_if(stretch.len() > 1 && first == last, "class 4: broken at the last position alone");
+        self.note_if(stretch.len() >= FAR, "class 4: 64 positions or more past O");
     }
 
     fn class_5(&mut self, table: &Table, common: &Common, r: u64, report: Report) {
