@@ -1,5 +1,5 @@
 -- The walk over the order may be asked of a checked table and a record that was given back, and what it answers.
-use mathlib.Core.Path.{_≡_, ap, _∙_}
+use mathlib.Core.Path.{_≡_, ap}
 use mathlib.Core.Bool.{Bool}
 use mathlib.Core.List.{List}
 use Prim.Native.Nat.{ℕ, _+_, _-_, _^_, _≤_, _<_}
@@ -17,9 +17,9 @@ use Rattle.common.proofs.Records as record-of
 use Rattle.common.proofs.Raw.{summable}
 use Rattle.laws.specs.Search.{first-from}
 use Rattle.laws.proofs.First.{first-says}
-use Rattle.walk.specs.Walk.{broken-by, Ended}
-use Rattle.walk.proofs.Ends.{ended-by}
-use Rattle.judge.specs.Lent.{projections-of, clear-places, prepared}
+use Rattle.walk.specs.declared.Walked.{Walked}
+use Rattle.walk.specs.Walk.{walked-to, broken-at}
+use Rattle.judge.specs.Lent.{clear-places, prepared}
 
 module _ {t : Table} {c : Common} (k : Checked t) (g : Given t c) where
   pub start-small : c .start < 2 ^ 49
@@ -42,24 +42,21 @@ module _ {t : Table} {c : Common} (k : Checked t) (g : Given t c) where
   from-within = omega (arith, record-of.numbers g .base, record-of.numbers g .offset)
 
   -- a place among those kept is a position that fits
-  pub clear-fits : (f : ℕ → Bool) (from : ℕ) → from ≤ c .count → {first : ℕ} → first ≡ first-from f from (c .count) → Fits w64 (c .base + first)
-  clear-fits f from l p = record { fits = omega (arith, p, (first-says f (c .count) from l) .up, record-of.numbers g .length-below) }
+  pub clear-fits : (f : ℕ → Bool) (from : ℕ) → from ≤ c .count → (longest tasks : List ℕ) (start : ℕ)
+      → {w : Walked} → w ≡ walked-to longest tasks start (first-from f from (c .count)) → Fits w64 (c .base + w .clear)
+  clear-fits f from l longest tasks start p =
+      record { fits = omega (arith, ap (λ (w : Walked). w .clear) p, (first-says f (c .count) from l) .up, record-of.numbers g .length-below) }
 
-  module _ {ends : List ℕ} (d : ends ≡ projections-of t c) where
-    pub may-walk : Ended ends (c .count)
-    may-walk = ended-by (t .longest) (c .tasks) (c .start) (may-sum start-small) d
-
-    module _ (r : ℕ) {first : ℕ} (p : first ≡ first-from (broken-by ends (t .slack) (c .tasks) (c .earliest) (t .count) r) (c .offset - c .base) (c .count)) where
-      clear-is : c .base + first ≡ c .base + clear-places t c r
-      unfolding clear-places
-      clear-is = ap (λ (n : ℕ). c .base + n) (p ∙ ap (λ (ends : List ℕ). first-from (broken-by ends (t .slack) (c .tasks) (c .earliest) (t .count) r) (c .offset - c .base) (c .count)) d)
-
-      pub prepared-is : record {
-        ends = ends;
-        before = record { base = c .base; offset = c .offset; kept = c .count; time = r; timeout = t .timeout; clear = c .base + first };
+  pub prepared-is : (r : ℕ) {w : Walked}
+      → w ≡ walked-to (t .longest) (c .tasks) (c .start)
+      (first-from (broken-at (t .longest) (c .tasks) (c .start) (c .earliest) (t .slack) (t .count) r) (c .offset - c .base) (c .count))
+      → record {
+        ends = w .ends;
+        before = record { base = c .base; offset = c .offset; kept = c .count; time = r; timeout = t .timeout; clear = c .base + w .clear };
       }
-          ≡ prepared t c r
-      prepared-is = λ i. record {
-        ends = d i;
-        before = record { base = c .base; offset = c .offset; kept = c .count; time = r; timeout = t .timeout; clear = clear-is i };
-      }
+      ≡ prepared t c r
+  unfolding clear-places
+  prepared-is r p = λ i. record {
+    ends = (p i) .ends;
+    before = record { base = c .base; offset = c .offset; kept = c .count; time = r; timeout = t .timeout; clear = c .base + (p i) .clear };
+  }

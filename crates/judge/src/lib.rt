@@ -28,7 +28,7 @@ pub struct Judgement {
     pub offset: u64,
 }
 
-// What one walk over the order finds for all entries of a round: the projections of all positions, and the numbers before the round.
+// What one walk over the order finds for all entries of a round: the projections as far as the bound is kept, and the numbers before the round.
 pub struct Prepared {
     pub ends: [u64; 257],
     pub before: Before,
@@ -42,19 +42,19 @@ pub fn prepare(t: Table, c: Common, time: u64) -> Prepared
     requires { ⌜ time < 2 ^ 48 ⌝ }
     ensures { λ r. ⌜ r ≡ prepared t c time ⌝ }
 {
-    let ends = walk::projections(&t.longest, &c.tasks, c.start, c.count);
     let from = (c.offset - c.base) as usize;
-    let first = walk::first_break(
-        &ends,
+    let w = walk::walk_order(
+        &t.longest,
         &t.slack,
         &c.tasks,
         &c.earliest,
+        c.start,
         t.count,
         time,
         from,
         c.count,
     );
-    let clear = c.base + first as u64;
+    let clear = c.base + w.clear as u64;
     let before = Before {
         base: c.base,
         offset: c.offset,
@@ -63,6 +63,7 @@ pub fn prepare(t: Table, c: Common, time: u64) -> Prepared
         timeout: t.timeout,
         clear,
     };
+    let ends = w.ends;
     Prepared { ends, before }
 }
 

@@ -1,6 +1,6 @@
 -- Laws of the first number from one on that passes a test.
 --     First, first-is, first-says                            what it is
---     Clear, clear-start, clear-next, clear-found, clear-end a loop that goes up and stops there
+--     Clear, clear-start, clear-next, clear-found, clear-end a loop that goes up from 0 and stops there
 --     first-end, first-down                                  a loop that goes down and keeps the last that it met
 --     first-same, first-below, first-lowest, first-none      tests that agree; a limit below; the search from 0
 use mathlib.Core.Path.{_≡_, sym, ap, _∙_}
@@ -59,31 +59,30 @@ module _ (f : ℕ → Bool) (n : ℕ) where
       by none s = record { down = omega arith; up = omega arith; before = λ j a b. reached (n - from) j s a b; there = λ l. absurd (omega arith) }
       by (some i) s = record { down = omega arith; up = omega (arith, s .inside); before = λ j a b. reached i j (s .first) a b; there = λ l. s .passes }
 
-  -- upward: none from `from` up to i passes
+  -- upward: none from `from` on and below i passes
   pub record Clear (from i : ℕ) : Type 0 where
-    pub down : from ≤ i
     pub up : i ≤ n
     pub before : (j : ℕ) → from ≤ j → j < i → f j ≡ false
 
-  pub clear-start : {from : ℕ} → from ≤ n → Clear from from
-  clear-start h = record { down = omega arith; up = h; before = λ j a b. absurd (omega arith) }
+  pub clear-start : {from : ℕ} → Clear from 0
+  clear-start = record { up = omega arith; before = λ j a b. absurd (omega arith) }
 
   module _ {from i : ℕ} (v : Clear from i) where
-    pub clear-next : i < n → f i ≡ false → Clear from (i + 1)
-    clear-next h e = record { down = omega (arith, v .down); up = omega arith; before = λ j a b. by j a (eq-or-lt-of-le (up-to j b)) }
+    pub clear-next : i < n → (from ≤ i → f i ≡ false) → Clear from (i + 1)
+    clear-next h e = record { up = omega arith; before = λ j a b. by j a (eq-or-lt-of-le (up-to j b)) }
       where
         up-to : (j : ℕ) → j < i + 1 → j ≤ i
         up-to j b = omega arith
 
         by : (j : ℕ) → from ≤ j → (j ≡ i) ⊎ (j < i) → f j ≡ false
-        by j a (inl q) = rw q e
+        by j a (inl q) = rw q (e (omega arith))
         by j a (inr q) = v .before j a q
 
-    pub clear-found : i < n → f i ≡ true → i ≡ first-from f from n
-    clear-found h e = first-is (record { down = v .down; up = v .up; before = v .before; there = λ l. e })
+    pub clear-found : from ≤ i → f i ≡ true → i ≡ first-from f from n
+    clear-found h e = first-is (record { down = h; up = v .up; before = v .before; there = λ l. e })
 
-    pub clear-end : n ≤ i → i ≡ first-from f from n
-    clear-end h = first-is (record { down = v .down; up = v .up; before = v .before; there = λ l. absurd (omega arith) })
+    pub clear-end : from ≤ n → n ≤ i → i ≡ first-from f from n
+    clear-end h l = first-is (record { down = omega arith; up = v .up; before = v .before; there = λ q. absurd (omega arith) })
 
   -- downward: from the end, where none is left
   pub first-end : First n n

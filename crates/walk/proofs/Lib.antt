@@ -1,5 +1,4 @@
 -- Laws of the walk.
-pub mod Ends
 pub mod Bounds
 pub mod Past
 pub mod Settled

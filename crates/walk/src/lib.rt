@@ -1,15 +1,24 @@
-// One walk a round over the order: the projections of all positions, the latest end that a job of each task may have, and the first place that breaks the
-// bound. Places count from 0: place n is position B + n + 1.
+// One walk a round over the order: the projections, the latest end that a job of each task may have, and the first place that breaks the bound. Places
+// count from 0: place n is position B + n + 1.
 ghost use mathlib.Core.Path.{_≡_};
+ghost use mathlib.Core.Bool.{_&&_};
 ghost use mathlib.Core.List.{[]};
-ghost use Prim.Native.Nat.{_+_, _≤_, _<_, min};
+ghost use Prim.Native.Nat.{_≤_, min};
+ghost use lib.ListN.{getD};
+ghost use Rattle.laws.specs.Tests.{_<?_, _≤?_};
 ghost use Rattle.laws.specs.Lists.{pad};
 ghost use Rattle.laws.specs.Search.{first-from};
 ghost use Rattle.common.specs.Raw.{Summable, Boundable};
-ghost use Rattle.walk.specs.Walk.{ends-of, limits-of, passes-limit, broken-by, Ended};
+ghost use Rattle.walk.specs.Walk.{limits-of, walked-to, passes-limit, broken-at};
 
 // Later than any end: the limit where there is no task of higher priority.
 const NEVER: u64 = 9223372036854775808;
+
+// What the walk found: how many places it passed before one broke the bound, and the projections of B and of those places.
+pub struct Walked {
+    pub ends: [u64; 257],
+    pub clear: usize,
+}
 
 fn smaller(a: usize, b: usize) -> usize
     ensures { λ r. ⌜ r ≡ min a b ⌝ }
@@ -41,29 +50,6 @@ fn no_limits() -> [u64; 65]
     [0; 65]
 }
 
-// "W plus the C of every job", of B and of each of the n positions past it, in one pass that carries the sum along.
-pub fn projections<'a>(
-    longest: &'a [u64; 64],
-    tasks: &'a [u8; 256],
-    start: u64,
-    n: usize,
-) -> [u64; 257]
-    requires { ⌜ Summable (now longest) (now tasks) start n ⌝ }
-    ensures { λ r. ⌜ r ≡ ends-of (now (longest .entry)) (now (tasks .entry)) start n ⌝ }
-{
-    let mut ends = no_ends();
-    let mut end = start;
-    let mut k = 0;
-    while k < n {
-        ends[k] = end;
-        let i = common::task_at(tasks, k);
-        end = end + longest[i];
-        k += 1;
-    }
-    ends[k] = end;
-    ends
-}
-
 // "projection(p) ≤ earliest release of i at t, plus S(i)", for every task i of higher priority: the latest end that a job of each task may have, in one pass
 // that carries the least along.
 fn limits<'a>(earliest: &'a [u64; 64], slack: &'a [u64; 64], count: usize, t: u64) -> [u64; 65]
@@ -83,46 +69,67 @@ fn limits<'a>(earliest: &'a [u64; 64], slack: &'a [u64; 64], count: usize, t: u6
     limits
 }
 
-// The first place from `from` on at which the end passes the limit.
-fn first_past<'a>(
-    ends: &'a [u64; 257],
-    limits: &'a [u64; 65],
+// The bound is tried from the place `from` on.
+fn breaks(limits: &[u64; 65], count: usize, from: usize, k: usize, task: usize, end: u64) -> bool
+    requires { ⌜ count ≤ 64 ⌝ }
+    ensures { λ r. ⌜ r ≡ ((from ≤? k) && (getD (now (limits .entry)) (min task count) 0 <? end)) ⌝ }
+{
+    if k < from {
+        return false;
+    }
+    let j = smaller(task, count);
+    limits[j] < end
+}
+
+// "W plus the C of every job", position by position, with the sum carried along, up to the first place from `from` on that breaks the bound.
+fn walk_on<'a>(
+    longest: &'a [u64; 64],
     tasks: &'a [u8; 256],
+    limits: &'a [u64; 65],
+    start: u64,
     count: usize,
     from: usize,
     kept: usize,
-) -> usize
-    requires { ⌜ (from ≤ kept) × (kept ≤ 256) × (count ≤ 64) ⌝ }
-    ensures { λ r. ⌜ r ≡ first-from (passes-limit (now (ends .entry)) (now (limits .entry)) (now (tasks .entry)) count) from kept ⌝ }
+) -> Walked
+    requires { ⌜ Summable (now longest) (now tasks) start kept ⌝ }
+    requires { ⌜ (from ≤ kept) × (count ≤ 64) ⌝ }
+    ensures { λ r. ⌜ r ≡ walked-to (now (longest .entry)) (now (tasks .entry)) start
+        (first-from (passes-limit (now (longest .entry)) (now (tasks .entry)) start (now (limits .entry)) count) from kept) ⌝ }
 {
-    let mut n = from;
-    while n < kept {
-        let task = common::task_at(tasks, n);
-        let j = smaller(task, count);
-        if limits[j] < ends[n + 1] {
-            return n;
+    let mut ends = no_ends();
+    let mut end = start;
+    let mut k = 0;
+    while k < kept {
+        ends[k] = end;
+        let i = common::task_at(tasks, k);
+        end = end + longest[i];
+        if breaks(limits, count, from, k, i, end) {
+            return Walked { ends, clear: k };
         }
-        n += 1;
+        k += 1;
     }
-    n
+    ends[k] = end;
+    Walked { ends, clear: k }
 }
 
-// The first place from `from` on at which the bound is broken at t.
-pub fn first_break<'a>(
-    ends: &'a [u64; 257],
+// The walk at time t, by the table's C and S: "every such task counts" at each place from `from` on.
+pub fn walk_order<'a>(
+    longest: &'a [u64; 64],
     slack: &'a [u64; 64],
     tasks: &'a [u8; 256],
     earliest: &'a [u64; 64],
+    start: u64,
     count: usize,
     t: u64,
     from: usize,
     kept: usize,
-) -> usize
+) -> Walked
+    requires { ⌜ Summable (now longest) (now tasks) start kept ⌝ }
     requires { ⌜ Boundable (now earliest) (now slack) count t ⌝ }
-    requires { ⌜ Ended (now ends) kept ⌝ }
     requires { ⌜ from ≤ kept ⌝ }
-    ensures { λ r. ⌜ r ≡ first-from (broken-by (now (ends .entry)) (now (slack .entry)) (now (tasks .entry)) (now (earliest .entry)) count t) from kept ⌝ }
+    ensures { λ r. ⌜ r ≡ walked-to (now (longest .entry)) (now (tasks .entry)) start
+        (first-from (broken-at (now (longest .entry)) (now (tasks .entry)) start (now (earliest .entry)) (now (slack .entry)) count t) from kept) ⌝ }
 {
     let latest = limits(earliest, slack, count, t);
-    first_past(ends, &latest, tasks, count, from, kept)
+    walk_on(longest, tasks, &latest, start, count, from, kept)
 }
