@@ -2,10 +2,11 @@
  * The doors of the cabinet's ordering software, for C and C++.
  *
  * States are arrays of 64-bit words in the caller's memory, of the lengths stated here. The library has no heap, keeps nothing between calls,
- * writes to less than 32 KiB of stack in any call (measured on x86-64, not proved), and trusts nothing: an array of another length, a table that does not pass the check and a state that lacks what every state under that table
- * has get a refusal of their own (100 and above) and change nothing. No state that the library wrote is refused; words that it never wrote are
- * taken where they are in the ranges of a state, and every call is exact on them too. Of the caller it asks only that each pointer is valid for its length
- * (never NULL, not even with a length of 0) and that an array to be written overlaps no other.
+ * writes to less than 32 KiB of stack in any call (measured on x86-64, not proved), and trusts nothing: an array of another length, a table that
+ * does not pass the check and a state that lacks what every state under that table has get a refusal of their own (100 and above) and change
+ * nothing. No state that the library wrote is refused; words that it never wrote are taken where they are in the ranges of a state, and every call
+ * is exact on them too. Of the caller it asks only that each pointer is valid for its length (never NULL, not even with a length of 0) and that an
+ * array to be written overlaps no other.
  *
  * Every reply begins with `refusal`: 0 where the call was accepted, else the number; the rest of a refused reply is 0 but for what is said here
  * (2 and 9 name a task; no back-runner is CABINET_NODES). A refusal changes nothing in any lent array. The lent arrays

@@ -69,7 +69,7 @@ fn limits<'a>(earliest: &'a [u64; 64], slack: &'a [u64; 64], count: usize, t: u6
     limits
 }
 
-// The bound is tried from the place `from` on.
+// From the place `from` on the bound is tried: a job of `task` that ends then breaks it where that is past the limit of its task.
 fn breaks(limits: &[u64; 65], count: usize, from: usize, k: usize, task: usize, end: u64) -> bool
     requires { ⌜ count ≤ 64 ⌝ }
     ensures { λ r. ⌜ r ≡ ((from ≤? k) && (getD (now (limits .entry)) (min task count) 0 <? end)) ⌝ }
