@@ -9,7 +9,7 @@ use table::Table;
 use words::tables::table_in;
 
 // A common record with its table; beside a refusal they mean nothing.
-#[derive(Drop)]
+#[derive(Clone, Copy)]
 pub struct Watched {
     pub refusal: u64,
     pub table: Table,
@@ -17,7 +17,7 @@ pub struct Watched {
 }
 
 // A node with its table; beside a refusal they mean nothing.
-#[derive(Drop)]
+#[derive(Clone, Copy)]
 pub struct Held {
     pub refusal: u64,
     pub table: Table,

@@ -5,14 +5,14 @@ ghost use Rattle.cabinet.specs.Replies.{bit, no_close};
 
 // `value` is what the call was asked for: a task, a count, a time; beside refusals 2 and 9 it is the task that these name, but not where a table is read.
 #[repr(C)]
-#[derive(Drop)]
+#[derive(Clone, Copy)]
 pub struct Reply {
     pub refusal: u64,
     pub value: u64,
 }
 
 #[repr(C)]
-#[derive(Drop)]
+#[derive(Clone, Copy)]
 pub struct NumberReply {
     pub refusal: u64,
     pub value: u64,
@@ -20,7 +20,7 @@ pub struct NumberReply {
 }
 
 #[repr(C)]
-#[derive(Drop)]
+#[derive(Clone, Copy)]
 pub struct ReportReply {
     pub refusal: u64,
     pub progress: u64,
@@ -29,7 +29,7 @@ pub struct ReportReply {
 }
 
 #[repr(C)]
-#[derive(Drop)]
+#[derive(Clone, Copy)]
 pub struct CloseReply {
     pub refusal: u64,
     pub back: u64,
@@ -39,7 +39,7 @@ pub struct CloseReply {
 }
 
 #[repr(C)]
-#[derive(Drop)]
+#[derive(Clone, Copy)]
 pub struct RecordReply {
     pub refusal: u64,
     pub time: u64,

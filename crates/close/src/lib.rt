@@ -1,4 +1,5 @@
 // A round record applied to a common record: refusals 3, 14, 15, 16 and 17, and the close.
+#![tactic(auto)]
 ghost use Rattle.std.specs.Prelude.{◌≡◌};
 ghost use Rattle.rules.specs.Answer.{refused};
 ghost use Rattle.rules.specs.Close.{close};
@@ -18,7 +19,7 @@ use table::Table;
 use trial::tried;
 
 // "A refusal gives its number and changes nothing."
-#[derive(Drop)]
+#[derive(Clone, Copy)]
 pub enum Outcome {
     Accepted,
     Refused(u64),
@@ -26,7 +27,7 @@ pub enum Outcome {
 
 // The common record after the round, and the reply: "one class number for each of fifteen places, the back-runner (15 if none)" and the majority notice.
 // Beside a refusal the record is as it stood, and the reply is empty: zeros, no back-runner, no majority.
-#[derive(Drop)]
+#[derive(Clone, Copy)]
 pub struct Closing {
     pub outcome: Outcome,
     pub common: Common,

@@ -1,4 +1,5 @@
 // The common record by value; projections and the bound.
+#![tactic(auto)]
 ghost use Rattle.std.specs.Prelude.{◌≡◌, ◌+◌, ◌^◌, ◌≤◌, ◌<◌, min, get_or};
 ghost use Rattle.rules.specs.Common.{fresh, earliest, projection, breaker};
 ghost use Rattle.table.specs.Table.{table_of};
@@ -10,7 +11,7 @@ use table::Table;
 
 // "It holds the jobs still kept, in order": their tasks in the first `count` places. Places not used hold 0, and so does `last` where none has begun,
 // so that equal records are equal bit for bit.
-#[derive(Drop)]
+#[derive(Clone, Copy)]
 pub struct Common {
     pub tasks: [u8; Common::PLACES],
     pub count: usize,
@@ -46,7 +47,7 @@ impl Common {
 }
 
 // The bound holds, or the lowest-numbered task that breaks it.
-#[derive(Drop)]
+#[derive(Clone, Copy)]
 pub enum Breach {
     Met,
     By(usize),

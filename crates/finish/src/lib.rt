@@ -1,4 +1,5 @@
 // A finish in a node that the caller lends: it is set in place, over a step by value.
+#![tactic(auto)]
 ghost use Rattle.std.specs.Prelude.{◌≡◌};
 ghost use Rattle.rules.specs.Node as rules;
 ghost use Rattle.node.specs.Node.{node_of, Ours, finishing};
@@ -7,7 +8,7 @@ ghost use Rattle.finish.specs.Finish.{number_of, numbers_of};
 use node::{FinishAnswer, Node};
 
 // What a finish says and sets: the refusal (0 where there is none), and the numbers of the node afterwards that are its own.
-#[derive(Drop)]
+#[derive(Clone, Copy)]
 pub struct Finished {
     pub refusal: u64,
     pub progress: u64,

@@ -1,4 +1,5 @@
 // The head of a session's input: the task table, read from bytes.
+#![tactic(auto)]
 ghost use Rattle.std.specs.Prelude.{◌≡◌, ◌≤◌, ◌<◌, length, drop};
 ghost use Rattle.rules.specs.Written.{times};
 ghost use Rattle.rules.specs.Session.{read_task, read_table};
@@ -8,7 +9,7 @@ use number::{NumberRead, read_number};
 use table::{Table, TableCheck, check_table, out_of_range};
 
 // "the four numbers per task": C, T, D and S.
-#[derive(Drop)]
+#[derive(Clone, Copy)]
 struct Task {
     longest: u64,
     distance: u64,
@@ -17,20 +18,20 @@ struct Task {
 }
 
 // A task and the place past it, or the refusal.
-#[derive(Drop)]
+#[derive(Clone, Copy)]
 enum TaskRead {
     Value(Task, usize),
     Refused(u64),
 }
 
-#[derive(Drop)]
+#[derive(Clone, Copy)]
 pub enum TableAnswer {
     Read,
     Refused(u64),
 }
 
 // What reading the table answers: the bytes used, 0 on a refusal. The table beside a refusal has no task, and places not used hold 0.
-#[derive(Drop)]
+#[derive(Clone, Copy)]
 pub struct TableRead {
     pub answer: TableAnswer,
     pub used: usize,

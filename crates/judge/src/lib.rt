@@ -1,4 +1,5 @@
 // How a round is judged: one walk over the order for all its entries, then each entry by itself, then the passes over them.
+#![tactic(auto)]
 pub mod class;
 mod entries;
 
@@ -17,7 +18,7 @@ use round::{Entry, Round};
 use table::Table;
 
 // The reply's classes, back-runner (15 if none) and notice, and the new B, W and O.
-#[derive(Drop)]
+#[derive(Clone, Copy)]
 pub struct Judgement {
     pub classes: [u8; 15],
     pub back: u64,
@@ -28,7 +29,7 @@ pub struct Judgement {
 }
 
 // What one walk over the order finds for all entries of a round: the projections as far as the bound is kept, and the numbers before the round.
-#[derive(Drop)]
+#[derive(Clone, Copy)]
 pub struct Prepared {
     pub ends: [u64; 257],
     pub before: Before,

@@ -1,4 +1,6 @@
 // The lines that the session program prints, each built in a lent buffer. The longest is an order line of 256 jobs: 5 + 256 · (1 + 20 + 1 + 3) + 1 = 6406 bytes.
+#![tactic(auto)]
+
 ghost use Rattle.std.specs.Prelude.{◌≡◌, map, ◌+◌, ◌*◌, ◌^◌, ◌<◌, ◌≤◌, length, take};
 ghost use Rattle.rules.specs.Session.{printed, order, refusal, jobs_from};
 ghost use Rattle.lines.specs.Text.{PutWithin, Front};

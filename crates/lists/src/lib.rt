@@ -1,5 +1,6 @@
 // A round record's lists as words in the caller's memory: two for each release (task, delay), four for each entry (0 where it is missing or 1, progress,
 // completion time, run).
+#![tactic(auto)]
 ghost use Rattle.std.specs.Prelude.{◌≡◌, [], ◌∷◌, ◌+◌, ◌*◌, ◌/◌, ◌≤◌, ◌<◌, min, length};
 ghost use Rattle.std.proofs.lemmas.List.Edits.{sets};
 ghost use Rattle.laws.specs.Lists.{rows, over};
@@ -9,7 +10,7 @@ ghost use Rattle.lists.specs.Lists.{release_at, entry_at, wrong_mark, round_at, 
 use round::{Entry, Place, Release, Report, Round};
 
 // A record by value, or the refusal (100 or 103) beside the blank record.
-#[derive(Drop)]
+#[derive(Clone, Copy)]
 pub struct RoundIn {
     pub refusal: u64,
     pub round: Round,

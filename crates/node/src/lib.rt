@@ -1,4 +1,5 @@
 // What a node does: start, finish, report and close.
+#![tactic(auto)]
 ghost use Rattle.std.specs.Prelude.{◌≡◌, max};
 ghost use Rattle.laws.specs.Tests.{found};
 ghost use Rattle.rules.specs.Node.{new_node, fresh_node, start, finish, report_of, report, node_close};
@@ -17,14 +18,14 @@ use round::{Report, Round};
 use table::Table;
 
 // What was sent for the round that is open.
-#[derive(Drop)]
+#[derive(Clone, Copy)]
 pub struct Sent {
     pub time: u64,
     pub report: Report,
 }
 
 // "possibly an open round with a lock"
-#[derive(Drop)]
+#[derive(Clone, Copy)]
 pub enum Opening {
     Shut,
     Open(Sent),
@@ -32,7 +33,7 @@ pub enum Opening {
 
 // "A node has progress (finished jobs), completion time of the last (0 at first), a running mark, its latest time, and possibly an open round with a
 // lock." It has its number, and a common record of its own. It is left behind where its progress is below that record's base.
-#[derive(Drop)]
+#[derive(Clone, Copy)]
 pub struct Node {
     pub number: u64,
     pub common: Common,
@@ -43,66 +44,66 @@ pub struct Node {
     pub round: Opening,
 }
 
-#[derive(Drop)]
+#[derive(Clone, Copy)]
 pub enum MakeAnswer {
     Made,
     Refused(u64),
 }
 
-#[derive(Drop)]
+#[derive(Clone, Copy)]
 pub struct Making {
     pub answer: MakeAnswer,
     pub node: Node,
 }
 
 // A start's answer: the task of the job that stands there, or the refusal; 9 with the task that breaks the bound.
-#[derive(Drop)]
+#[derive(Clone, Copy)]
 pub enum StartAnswer {
     Starts(u64),
     Refused(u64),
     Waits(u64),
 }
 
-#[derive(Drop)]
+#[derive(Clone, Copy)]
 pub struct Starting {
     pub answer: StartAnswer,
     pub node: Node,
 }
 
-#[derive(Drop)]
+#[derive(Clone, Copy)]
 pub enum FinishAnswer {
     Finished,
     Refused(u64),
 }
 
-#[derive(Drop)]
+#[derive(Clone, Copy)]
 pub struct Finishing {
     pub answer: FinishAnswer,
     pub node: Node,
 }
 
 // Whether the job at the next position may start, by 6 to 9; 9 with the task that breaks the bound.
-#[derive(Drop)]
+#[derive(Clone, Copy)]
 pub enum Permission {
     Granted,
     Refused(u64),
     Waits(u64),
 }
 
-#[derive(Drop)]
+#[derive(Clone, Copy)]
 pub enum ReportAnswer {
     Sends(Report),
     Refused(u64),
 }
 
-#[derive(Drop)]
+#[derive(Clone, Copy)]
 pub struct Reporting {
     pub answer: ReportAnswer,
     pub node: Node,
 }
 
 // The reply is the common record's. `left` says whether the node given back is left behind.
-#[derive(Drop)]
+#[derive(Clone, Copy)]
 pub struct NodeClosing {
     pub outcome: Outcome,
     pub node: Node,
@@ -113,7 +114,7 @@ pub struct NodeClosing {
 }
 
 // What the refusals say that come first: those that a start, a finish and a report share, and a close's own.
-#[derive(Drop)]
+#[derive(Clone, Copy)]
 pub enum Check {
     Passes,
     Refused(u64),

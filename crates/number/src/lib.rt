@@ -1,4 +1,6 @@
 // "A number is written in groups of seven bits, lowest first, the top bit set on all groups but the last, shortest form, at most nine groups."
+#![tactic(auto)]
+
 ghost use Rattle.std.specs.Prelude.{◌≡◌, ◌+◌, ◌^◌, ◌<◌, ◌≤◌, length, drop};
 ghost use Rattle.std.proofs.lemmas.List.Edits.{sets};
 ghost use Rattle.rules.specs.Numbers.{number, number_bytes};
@@ -6,7 +8,7 @@ ghost use Rattle.rules.specs.Written.{write_number};
 ghost use Rattle.number.specs.Numbers.{number_read, last_group, written_of, left_from};
 
 // A number that was read and the place past it, or the refusal: 18 or 19.
-#[derive(Drop)]
+#[derive(Clone, Copy)]
 pub enum NumberRead {
     Value(u64, usize),
     Refused(u64),
@@ -58,7 +60,7 @@ pub fn read_number(bytes: &[u8], from: usize) -> NumberRead
 }
 
 // How many bytes were written, or the refusal.
-#[derive(Drop)]
+#[derive(Clone, Copy)]
 pub enum Written {
     Bytes(usize),
     Refused(u64),

@@ -1,4 +1,6 @@
 // The passes over the entries of a round, from the highest node down.
+#![tactic(auto)]
+
 ghost use Rattle.std.specs.Prelude.{◌≡◌, ◌+◌, ◌/◌, ◌≤◌, ◌<◌, max, min, take};
 ghost use mathlib.Core.List.{[], foldr, map};
 ghost use Rattle.laws.specs.Tests.{◌≤?◌};
@@ -8,7 +10,7 @@ ghost use Rattle.laws.proofs.Folds.{bits, with_bit};
 ghost use Rattle.passes.specs.Classed.{no_class, class_in, in_front, front_step, rear_step, start_step, is_rear, is_back, back_of};
 
 // An entry with its class: what the passes over the entries of a round read of it.
-#[derive(Drop)]
+#[derive(Clone, Copy)]
 pub struct Classed {
     pub class: u8,
     pub progress: u64,
@@ -195,7 +197,7 @@ pub fn classes_of(all: [Classed; 15], n: usize) -> [u8; 15]
 }
 
 // The back-runner, and B and W after the round.
-#[derive(Drop)]
+#[derive(Clone, Copy)]
 pub struct Back {
     pub node: u64,
     pub base: u64,

@@ -1,4 +1,5 @@
 // A round record, read in one pass over lent bytes.
+#![tactic(auto)]
 ghost use Rattle.std.specs.Prelude.{◌≡◌, ◌≤◌, length, drop};
 ghost use Rattle.rules.specs.Written.{times, read_release, read_report, read_entry};
 ghost use Rattle.number.specs.Numbers.{number_read};
@@ -8,34 +9,34 @@ use number::NumberRead;
 use round::{Entry, Place, Release, Report, Round};
 
 // One release, or one entry, and the place past it; or the refusal.
-#[derive(Drop)]
+#[derive(Clone, Copy)]
 enum ReleaseRead {
     Value(Release, usize),
     Refused(u64),
 }
 
-#[derive(Drop)]
+#[derive(Clone, Copy)]
 enum EntryRead {
     Value(Place, usize),
     Refused(u64),
 }
 
 // The place past a list, or the refusal.
-#[derive(Drop)]
+#[derive(Clone, Copy)]
 enum Ended {
     Next(usize),
     Refused(u64),
 }
 
 // A list that was read: a refusal leaves it empty.
-#[derive(Drop)]
+#[derive(Clone, Copy)]
 struct Releases {
     list: [Release; 64],
     count: usize,
     ended: Ended,
 }
 
-#[derive(Drop)]
+#[derive(Clone, Copy)]
 struct Entries {
     list: [Place; 15],
     count: usize,
@@ -43,20 +44,20 @@ struct Entries {
 }
 
 // Both lists and the time before them: a refusal leaves the blank record.
-#[derive(Drop)]
+#[derive(Clone, Copy)]
 struct RoundRead {
     round: Round,
     ended: Ended,
 }
 
-#[derive(Drop)]
+#[derive(Clone, Copy)]
 pub enum RecordAnswer {
     Read,
     Refused(u64),
 }
 
 // What reading a record answers: "the reply gives the bytes used, 0 on a refusal". The round beside a refusal is the blank one.
-#[derive(Drop)]
+#[derive(Clone, Copy)]
 pub struct RecordRead {
     pub answer: RecordAnswer,
     pub used: usize,

@@ -9,14 +9,14 @@ use round::{Release, Round};
 use table::Table;
 
 // One release in its list: its delay, below which the next must not fall, or its refusal.
-#[derive(Drop)]
+#[derive(Clone, Copy)]
 pub enum Listed {
     Fits(u64),
     Refused(u64),
 }
 
 // A list: it stands, or the first release that cannot ends the check.
-#[derive(Drop)]
+#[derive(Clone, Copy)]
 pub enum Standing {
     Stands,
     Refused(u64),

@@ -10,14 +10,14 @@ use round::Round;
 use table::Table;
 
 // One release against its task's E: its time, or its refusal.
-#[derive(Drop)]
+#[derive(Clone, Copy)]
 pub enum Admit {
     At(u64),
     Refused(u64),
 }
 
 // A list against E. Where it does not stand, E is as it was.
-#[derive(Drop)]
+#[derive(Clone, Copy)]
 pub struct Spaced {
     pub standing: Standing,
     pub earliest: [u64; 64],

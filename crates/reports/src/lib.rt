@@ -1,5 +1,6 @@
 // "The reports of a round are a list of records that the caller lends": the list is walked by a thin function over the judge of one report by value. What
 // all reports share is prepared once, before the first.
+#![tactic(auto)]
 ghost use Rattle.std.specs.Prelude.{◌≡◌, ◌≤◌, take};
 ghost use Rattle.table.specs.Table.{table_of};
 ghost use Rattle.common.specs.Common.{common_of};
@@ -15,7 +16,7 @@ use round::{Entry, Report};
 use table::Table;
 
 // A report in the caller's list. Where it is not present its numbers mean nothing.
-#[derive(Drop)]
+#[derive(Clone, Copy)]
 pub struct Told {
     pub present: bool,
     pub progress: u64,
@@ -24,7 +25,7 @@ pub struct Told {
 }
 
 // What a round is judged by: the table, the common record before the round, and r.
-#[derive(Drop)]
+#[derive(Clone, Copy)]
 pub struct Basis {
     pub table: Table,
     pub common: Common,
@@ -32,7 +33,7 @@ pub struct Basis {
 }
 
 // The first `count` reports of a round, judged by what was prepared: each in its node's place with its class and what the passes read of it.
-#[derive(Drop)]
+#[derive(Clone, Copy)]
 pub struct Judging {
     pub prepared: Prepared,
     pub count: usize,

@@ -1,17 +1,19 @@
 // A round record by value: r, the releases and the entries.
+#![tactic(auto)]
+
 ghost use Rattle.std.specs.Prelude.{◌≡◌, []};
 ghost use Rattle.laws.specs.Lists.{pad};
 ghost use Rattle.round.specs.Round.{no_release, no_entry, blank};
 
 // "releases (task, delay after r)"
-#[derive(Drop)]
+#[derive(Clone, Copy)]
 pub struct Release {
     pub task: u64,
     pub delay: u64,
 }
 
 // "(progress, completion time, run)"
-#[derive(Drop)]
+#[derive(Clone, Copy)]
 pub struct Report {
     pub progress: u64,
     pub completed: u64,
@@ -19,21 +21,21 @@ pub struct Report {
 }
 
 // "each missing or (progress, completion time, run)": a missing entry carries no numbers.
-#[derive(Drop)]
+#[derive(Clone, Copy)]
 pub enum Entry {
     Missing,
     Sent(Report),
 }
 
 // One place of a list of entries.
-#[derive(Drop)]
+#[derive(Clone, Copy)]
 pub struct Place {
     pub entry: Entry,
 }
 
 // "A record has r, 0 to 64 releases and m entries": so many are listed, so many entered. A count may say more than there are places: such a record
 // is refused 15, like any other of that count.
-#[derive(Drop)]
+#[derive(Clone, Copy)]
 pub struct Round {
     pub time: u64,
     pub listed: usize,

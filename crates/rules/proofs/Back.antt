@@ -1,5 +1,5 @@
 -- What is read was written so: the bytes that a reading used are those that its result is written as.
-use mathlib.Core.Path.{◌≡◌, refl, sym, ap, ◌∙◌}
+use mathlib.Core.Path.{◌≡◌, refl, sym, ap, subst, ◌∙◌}
 use mathlib.Core.Bool.{Bool, true, false, ◌&&◌}
 use mathlib.Core.Option.{none}
 use mathlib.Core.List.{List, [], ◌∷◌, ◌++◌, foldr, append_assoc}
@@ -165,14 +165,18 @@ record_came j k s z =
     counted_came 15 k m.value m.rest _ λ fewer. gives_after _ (times_came entry_numbers read_entry entry_came m.value m.rest i.bytes) λ es l. so (record {
       was = record {
         bytes = l.was.bytes;
-        is = λ ns t e. rw (h.long, l.long)
-            (let es' = foldr entry_numbers ns es.value in
+        is = λ ns t e.
+            let es' = foldr entry_numbers ns es.value in
             let xs' = foldr release_numbers (m.value ∷ es') xs.value in
-            p.is (n.value ∷ xs') t (g.is xs' t (h.was.is (m.value ∷ es') t (i.is es' t (l.was.is ns t e)))));
-        small = λ ns f. rw (h.long, l.long)
-            (let es' = foldr entry_numbers ns es.value in
+            p.is (n.value ∷ xs') t (g.is xs' t (h.was.is (m.value ∷ es') t (i.is es' t (l.was.is ns t e))))
+            ∙ ap (λ (k : ℕ). bytes_of (r.value ∷ k ∷ xs') ++ t) (sym h.long)
+            ∙ ap (λ (k : ℕ). bytes_of (r.value ∷ length xs.value ∷ foldr release_numbers (k ∷ es') xs.value) ++ t) (sym l.long);
+        small = λ ns f.
+            let es' = foldr entry_numbers ns es.value in
             let xs' = foldr release_numbers (m.value ∷ es') xs.value in
-            p.small (n.value ∷ xs') (g.small xs' (h.was.small (m.value ∷ es') (i.small es' (l.was.small ns f)))));
+            subst (λ (k : ℕ). too_large (r.value ∷ length xs.value ∷ foldr release_numbers (k ∷ es') xs.value) ≡ false) (sym l.long)
+            (subst (λ (k : ℕ). too_large (r.value ∷ k ∷ xs') ≡ false) (sym h.long)
+            (p.small (n.value ∷ xs') (g.small xs' (h.was.small (m.value ∷ es') (i.small es' (l.was.small ns f))))));
       };
       listed = omega (arith, h.long);
       entered = omega (arith, l.long);

@@ -5,6 +5,7 @@
 //
 // A program in Rattle ends with status 0 whatever happens. A session that was carried to its end is told by its last line: `order ..`, or a sole
 // `refused N`. An input that cannot be read, or an output that cannot be written, is told on standard error, and no order line follows it.
+#![tactic(auto)]
 ghost use Rattle.std.specs.Prelude.{◌-◌, ◌≤◌, length};
 ghost use Rattle.table.specs.Table.{Checked};
 ghost use Rattle.turn.specs.Gather.{Countable, Printable};
@@ -19,7 +20,7 @@ use turn::window::shift;
 use turn::{Turn, TurnAnswer, next_turn};
 
 // The bytes `from` to `to` of the window are read and not yet used; `ended` says that no more will come.
-#[derive(Drop)]
+#[derive(Clone, Copy)]
 struct Window {
     from: usize,
     to: usize,
@@ -28,7 +29,7 @@ struct Window {
 }
 
 // The common record, the window, and how many bytes of lines are gathered.
-#[derive(Drop)]
+#[derive(Clone, Copy)]
 struct State {
     common: Common,
     window: Window,
@@ -36,7 +37,7 @@ struct State {
 }
 
 // How many bytes of lines are gathered now, and whether those before them could be written.
-#[derive(Drop)]
+#[derive(Clone, Copy)]
 struct Said {
     kept: usize,
     written: bool,

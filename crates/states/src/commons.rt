@@ -12,7 +12,7 @@ use table::Table;
 use words::block::{block, put_block, put_tasks, tasks_in};
 
 // What the words say, or the refusal; beside a refusal stands the fresh record.
-#[derive(Drop)]
+#[derive(Clone, Copy)]
 pub struct CommonIn {
     pub refusal: u64,
     pub common: Common,

@@ -12,7 +12,7 @@ use round::Report;
 use table::Table;
 
 // What the words say, or the refusal; beside a refusal stands the fresh node of number 0.
-#[derive(Drop)]
+#[derive(Clone, Copy)]
 pub struct NodeIn {
     pub refusal: u64,
     pub node: Node,

@@ -1,4 +1,6 @@
 // The task table and its check.
+#![tactic(auto)]
+
 ghost use Rattle.std.specs.Prelude.{◌≡◌, ◌≤◌, ◌<◌, max};
 ghost use Rattle.rules.specs.Table.{out_of_range, check};
 ghost use Rattle.table.specs.Table.{table_of};
@@ -7,7 +9,7 @@ ghost use Rattle.laws.specs.Tests.{if◌then◌else◌};
 
 // "Each task has a longest execution C, least distance between releases T, deadline D and slack S": 64-bit numbers, so that an oversized one
 // is refused and never cut. Of the 64 places the first `count` are the tasks; nothing is asked of the others.
-#[derive(Drop)]
+#[derive(Clone, Copy)]
 pub struct Table {
     pub nodes: u64,
     pub timeout: u64,
@@ -19,7 +21,7 @@ pub struct Table {
 }
 
 // 1, or 2 with the first task that breaks a rule.
-#[derive(Drop)]
+#[derive(Clone, Copy)]
 pub enum TableCheck {
     Passes,
     OutOfRange,

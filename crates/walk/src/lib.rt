@@ -1,5 +1,6 @@
 // One walk a round over the order: the projections, the latest end that a job of each task may have, and the first place that breaks the bound. Places
 // count from 0: place n is position B + n + 1.
+#![tactic(auto)]
 ghost use Rattle.std.specs.Prelude.{◌≡◌, ◌&&◌, [], ◌≤◌, min, get_or};
 ghost use Rattle.laws.specs.Tests.{◌<?◌, ◌≤?◌};
 ghost use Rattle.laws.specs.Lists.{pad};
@@ -11,7 +12,7 @@ ghost use Rattle.walk.specs.Walk.{limits_of, walked_to, passes_limit, broken_at}
 const NEVER: u64 = 9223372036854775808;
 
 // What the walk found: how many places it passed before one broke the bound, and the projections of B and of those places.
-#[derive(Drop)]
+#[derive(Clone, Copy)]
 pub struct Walked {
     pub ends: [u64; 257],
     pub clear: usize,

@@ -8,7 +8,7 @@ use crate::block::{block, put_block};
 use table::{Table, TableCheck, check_table};
 
 // 0 and the table, or the number of a refusal and a table with no task.
-#[derive(Drop)]
+#[derive(Clone, Copy)]
 pub struct TableIn {
     pub refusal: u64,
     pub table: Table,

@@ -1,4 +1,5 @@
 // A round record, written: as the numbers that it is, whose sizes say whether it fits, and then number by number into the lent bytes.
+#![tactic(auto)]
 ghost use Rattle.std.specs.Prelude.{◌≡◌, false, [], ◌++◌, ◌≤◌, length};
 ghost use Rattle.std.proofs.lemmas.List.Edits.{sets};
 ghost use Rattle.laws.specs.Lists.{pad};
@@ -11,7 +12,7 @@ use number::Written;
 use round::{Entry, Round};
 
 // The numbers of a record in the order in which they are written: r, two counts, two for each of 64 releases and four for each of 15 entries at most.
-#[derive(Drop)]
+#[derive(Clone, Copy)]
 struct Numbers {
     count: usize,
     list: [u64; 191],
@@ -82,7 +83,7 @@ fn record_numbers(q: Round) -> Numbers
 }
 
 // How many bytes numbers take, where none is too large to write.
-#[derive(Drop)]
+#[derive(Clone, Copy)]
 enum Size {
     Bytes(usize),
     TooLarge,

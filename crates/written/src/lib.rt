@@ -1,1 +1,2 @@
 // No code: what the reader and the writer of records are together, in proofs/.
+#![tactic(auto)]
