@@ -1,5 +1,6 @@
 // The common record by value; projections and the bound.
 #![tactic(auto)]
+
 ghost use Rattle.std.specs.Prelude.{◌≡◌, ◌+◌, ◌^◌, ◌≤◌, ◌<◌, min, get_or};
 ghost use Rattle.rules.specs.Common.{fresh, earliest, projection, breaker};
 ghost use Rattle.table.specs.Table.{table_of};

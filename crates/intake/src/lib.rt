@@ -1,5 +1,6 @@
 // The head of a session's input: the task table, read from bytes.
 #![tactic(auto)]
+
 ghost use Rattle.std.specs.Prelude.{◌≡◌, ◌≤◌, ◌<◌, length, drop};
 ghost use Rattle.rules.specs.Written.{times};
 ghost use Rattle.rules.specs.Session.{read_task, read_table};

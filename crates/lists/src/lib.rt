@@ -1,6 +1,7 @@
 // A round record's lists as words in the caller's memory: two for each release (task, delay), four for each entry (0 where it is missing or 1, progress,
 // completion time, run).
 #![tactic(auto)]
+
 ghost use Rattle.std.specs.Prelude.{◌≡◌, [], ◌∷◌, ◌+◌, ◌*◌, ◌/◌, ◌≤◌, ◌<◌, min, length};
 ghost use Rattle.std.proofs.lemmas.List.Edits.{sets};
 ghost use Rattle.laws.specs.Lists.{rows, over};

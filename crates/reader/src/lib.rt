@@ -1,5 +1,6 @@
 // A round record, read in one pass over lent bytes.
 #![tactic(auto)]
+
 ghost use Rattle.std.specs.Prelude.{◌≡◌, ◌≤◌, length, drop};
 ghost use Rattle.rules.specs.Written.{times, read_release, read_report, read_entry};
 ghost use Rattle.number.specs.Numbers.{number_read};

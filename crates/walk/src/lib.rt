@@ -1,6 +1,7 @@
 // One walk a round over the order: the projections, the latest end that a job of each task may have, and the first place that breaks the bound. Places
 // count from 0: place n is position B + n + 1.
 #![tactic(auto)]
+
 ghost use Rattle.std.specs.Prelude.{◌≡◌, ◌&&◌, [], ◌≤◌, min, get_or};
 ghost use Rattle.laws.specs.Tests.{◌<?◌, ◌≤?◌};
 ghost use Rattle.laws.specs.Lists.{pad};

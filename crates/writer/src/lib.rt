@@ -1,5 +1,6 @@
 // A round record, written: as the numbers that it is, whose sizes say whether it fits, and then number by number into the lent bytes.
 #![tactic(auto)]
+
 ghost use Rattle.std.specs.Prelude.{◌≡◌, false, [], ◌++◌, ◌≤◌, length};
 ghost use Rattle.std.proofs.lemmas.List.Edits.{sets};
 ghost use Rattle.laws.specs.Lists.{pad};

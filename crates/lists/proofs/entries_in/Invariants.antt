@@ -1,0 +1,23 @@
+-- The first entries, put into their places one by one.
+use mathlib.Core.Path.{◌≡◌, ap}
+use mathlib.Core.List.{List, []}
+use Prim.Native.Nat.{ℕ, ◌+◌, ◌-◌, ◌*◌, ◌/◌, ◌≤◌, ◌<◌, min}
+use native.Mathlib.Omega.{arith}
+use borrow.Author.Rules.{rules}
+use lib.ListN.{length, set}
+use Rattle.laws.specs.Lists.{rows, pad}
+use Rattle.round.specs.declared.Entry.{Entry}
+use Rattle.round.specs.declared.Place.{Place}
+use Rattle.round.specs.Round.{entry_as, no_entry}
+use Rattle.lists.specs.Lists.{entry_at, place_as, entry_places}
+use Rattle.lists.proofs.Places.{Placed, placed_none, placed_next, placed_all}
+use Rattle.lists.proofs.entries_in.Given as goal
+
+pub record Inv (ws : List ℕ) (count : ℕ) (list : List Place) (i : ℕ) : Type 0 where
+  pub places : Placed place_as 15 no_entry (entry_at ws) (length ws / 4) count list i
+
+abbrev pub invariant-loop-i : goal.invariant-loop-i
+invariant-loop-i l = Inv l.words l.count l.list l.i
+
+abbrev pub decreases-loop-i : goal.decreases-loop-i
+decreases-loop-i l = l.count - l.i

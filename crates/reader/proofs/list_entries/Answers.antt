@@ -1,0 +1,18 @@
+-- So many entries, read into the array one by one.
+use Prim.Native.Nat.{◌-◌}
+use borrow.Author.Rules.{rules}
+use Rattle.reader.proofs.Lists.{SoFar, list_start, list_done, list_stop, list_more}
+use Rattle.reader.proofs.Elements.{entry_kind}
+use Rattle.reader.proofs.list_entries.Goals as goal
+
+pub loop-i-init : goal.loop-i-init
+loop-i-init c = search (list_start entry_kind)
+
+pub returns-in-Refused : goal.returns-in-Refused
+returns-in-Refused c = search (list_stop entry_kind)
+
+pub loop-i-preserved : goal.loop-i-preserved
+loop-i-preserved c = search (list_more entry_kind)
+
+pub returns : goal.returns
+returns c = search (list_done entry_kind)

@@ -1,0 +1,12 @@
+-- So many entries, read into the array one by one.
+use Prim.Native.Nat.{◌-◌}
+use borrow.Author.Rules.{rules}
+use Rattle.reader.proofs.Lists.{SoFar, list_start, list_done, list_stop, list_more}
+use Rattle.reader.proofs.Elements.{entry_kind}
+use Rattle.reader.proofs.list_entries.Given as goal
+
+abbrev pub invariant-loop-i : goal.invariant-loop-i
+invariant-loop-i l = SoFar entry_kind l.bytes l.from l.count l.list l.at l.i
+
+abbrev pub decreases-loop-i : goal.decreases-loop-i
+decreases-loop-i l = l.count - l.i

@@ -1,0 +1,11 @@
+-- 64 words copied out, one a turn.
+use Prim.Native.Nat.{◌-◌}
+use borrow.Author.Rules.{rules}
+use Rattle.words.proofs.Copies.{Taken, taken_start, taken_next, taken_end}
+use Rattle.words.proofs.block.block.Given as goal
+
+abbrev pub invariant-loop-i : goal.invariant-loop-i
+invariant-loop-i l = Taken 64 l.words l.from l.out l.i
+
+abbrev pub decreases-loop-i : goal.decreases-loop-i
+decreases-loop-i l = 64 - l.i
