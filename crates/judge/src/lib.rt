@@ -1,5 +1,6 @@
 // How a round is judged: one walk over the order for all its entries, then each entry by itself, then the passes over them.
 #![tactic(auto)]
+
 pub mod class;
 mod entries;
 

@@ -13,17 +13,8 @@ use Rattle.round.specs.Round.{release_of, releases_of, no_release}
 use Rattle.release.specs.Insertion.{place_in, put_in, put_all, Packed, Room}
 use Rattle.release.proofs.Releases.{release_here, releases_end}
 use Rattle.release.proofs.Order.{packed_kept, packed_pad, place_within, put_long, put_packed, put_none, put_more}
-use Rattle.release.proofs.insertion.all_put.Statement.{statement}
-use Rattle.release.proofs.insertion.all_put.Tie as tie
-
-record Inv (tasks : List ℕ) (count past : ℕ) (q : Round) (n : ℕ) (next : List ℕ) (i : ℕ) : Type 0 where
-  long : length q.releases ≡ 64
-  room : Room count past q
-  few : n ≤ 64
-  listed : n ≡ q.listed
-  to : i ≤ n
-  packed : Packed next (count + i)
-  to_do : put_all past (take count tasks) (releases_of q) ≡ put_all past (take (count + i) next) (drop i (releases_of q))
+use Rattle.release.proofs.insertion.all_put.Invariants.{Inv}
+use Rattle.release.proofs.insertion.all_put.Goals as goal
 
 inv_start : {tasks : List ℕ} {count past : ℕ} {q : Round} → length q.releases ≡ 64 → Packed tasks count → Room count past q
     → Inv tasks count past q q.listed tasks 0
@@ -87,63 +78,20 @@ module _ {tasks : List ℕ} {count past : ℕ} {q : Round} {n : ℕ} {next : Lis
               to_do = v.to_do ∙ rw (here, new_is, w.0) (put_more past before (release_of (get_or q.releases i no_release)) (drop (i + 1) (releases_of q)));
             }
 
-abbrev invariant_loop : tie.invariant-loop
-invariant_loop count past q next₀ n i₀ next i = Inv next₀ count past q n next i
+pub loop-i-init : goal.loop-i-init
+loop-i-init c = inv_start (search length_of_map) c.requires.0 c.requires.1
 
-abbrev decreases_loop : tie.decreases-loop
-decreases_loop count past q next₀ n i₀ next i = n - i
+pub place-at-requires : goal.place-at-requires
+place-at-requires c = (search rules, search inv_from)
 
-loop_holds : tie.Need-loop-init invariant_loop decreases_loop
-loop_holds c = inv_start (search length_of_map) c.requires.0 c.requires.1
+pub overflow_cast-x : goal.overflow_cast-x
+overflow_cast-x c = record { fits = search inv_task }
 
-mul_x : tie.Need-overflow-mul-x invariant_loop decreases_loop
-mul_x c = search rules
+pub push-requires : goal.push-requires
+push-requires c = (search rules, search inv_at, search inv_one)
 
-element_copy_out_x : tie.Need-element-copy-out-x invariant_loop decreases_loop
-element_copy_out_x c = search rules
+pub loop-i-preserved : goal.loop-i-preserved
+loop-i-preserved c = search inv_more
 
-add_place : tie.Need-overflow-add-place invariant_loop decreases_loop
-add_place c = search rules
-
-place_requires : tie.Need-place-requires invariant_loop decreases_loop
-place_requires c κs = (search rules, search inv_from)
-
-add_push : tie.Need-overflow-add-push invariant_loop decreases_loop
-add_push c = search rules
-
-cast_push : tie.Need-overflow-cast-push invariant_loop decreases_loop
-cast_push c = record { fits = search inv_task }
-
-push_requires : tie.Need-push-requires invariant_loop decreases_loop
-push_requires c κs = (search rules, search inv_at, search inv_one)
-
-add_i : tie.Need-overflow-add-i invariant_loop decreases_loop
-add_i c = search rules
-
-loop_less : tie.Need-loop-smaller invariant_loop decreases_loop
-loop_less c = search rules
-
-loop_again : tie.Need-loop-preserved invariant_loop decreases_loop
-loop_again c = search inv_more
-
-returns : tie.Need-returns invariant_loop decreases_loop
+pub returns : goal.returns
 returns c = search inv_done
-
-pub all_put_spec : {M : Type 1} → statement M
-all_put_spec =
-    tie.close
-    (tie.spec
-    invariant_loop
-    decreases_loop
-    loop_holds
-    mul_x
-    element_copy_out_x
-    add_place
-    place_requires
-    add_push
-    cast_push
-    push_requires
-    add_i
-    loop_less
-    loop_again
-    returns)

@@ -6,8 +6,7 @@ use lib.ListN.{get_or}
 use Rattle.rules.specs.Close.{first_delay}
 use Rattle.round.specs.declared.Round.{Round}
 use Rattle.round.specs.Round.{releases_of, release_of, no_release}
-use Rattle.release.proofs.listing.first_delay.Statement.{statement}
-use Rattle.release.proofs.listing.first_delay.Tie as tie
+use Rattle.release.proofs.listing.first_delay.Goals as goal
 
 no_first : (q : Round) → q.listed ≡ 0 → 0 ≡ first_delay (releases_of q)
 unfolding rows
@@ -21,14 +20,8 @@ first q h = by q.listed h
     by zero g = absurd (g refl)
     by (suc n) g = refl
 
-returns : tie.Need-returns
-returns c = search no_first
+pub returns-then-q-eq0 : goal.returns-then-q-eq0
+returns-then-q-eq0 c = search no_first
 
-element_copy_out_x : tie.Need-element-copy-out-x
-element_copy_out_x c = search rules
-
-returns_2 : tie.Need-returns-2
-returns_2 c = search first
-
-pub first_delay_spec : {M : Type 1} → statement M
-first_delay_spec = tie.close (tie.spec returns element_copy_out_x returns_2)
+pub returns : goal.returns
+returns c = search first

@@ -14,8 +14,7 @@ use Rattle.release.specs.declared.listing.Standing.{Standing}
 use Rattle.release.specs.declared.listing.Standing.TheVariants.{Refused}
 use Rattle.release.specs.Listing.{standing}
 use Rattle.release.proofs.Releases.{releases_count, entries_count}
-use Rattle.release.proofs.listing.well_formed.Statement.{statement}
-use Rattle.release.proofs.listing.well_formed.Tie as tie
+use Rattle.release.proofs.listing.well_formed.Goals as goal
 
 module _ (t : Table) (q : Round) where
   too_long : 64 < q.listed → Refused 15 ≡ standing 15 (ill_formed (table_of t) (round_of q))
@@ -45,23 +44,14 @@ module _ (t : Table) (q : Round) where
           by true = refl
           by false = refl
 
-returns : tie.Need-returns
-returns c = search too_long
+pub returns-then-listed-gt64 : goal.returns-then-listed-gt64
+returns-then-listed-gt64 c = search too_long
 
-returns_2 : tie.Need-returns-2
-returns_2 c = search other_count
+pub returns-then-entered-nodes : goal.returns-then-entered-nodes
+returns-then-entered-nodes c = search other_count
 
-first_delay_requires : tie.Need-first-delay-requires
-first_delay_requires c κs = search rules
+pub returns-then-first-ne0 : goal.returns-then-first-ne0
+returns-then-first-ne0 c = search first_late
 
-returns_3 : tie.Need-returns-3
-returns_3 c = search first_late
-
-all_listed_requires : tie.Need-all-listed-requires
-all_listed_requires c κs = search rules
-
-returns_4 : tie.Need-returns-4
-returns_4 c = search list_decides
-
-pub well_formed_spec : {M : Type 1} → statement M
-well_formed_spec = tie.close (tie.spec returns returns_2 first_delay_requires returns_3 all_listed_requires returns_4)
+pub returns : goal.returns
+returns c = search list_decides

@@ -18,15 +18,8 @@ use Rattle.release.specs.declared.listing.Listed.{Listed}
 use Rattle.release.specs.declared.listing.Listed.TheVariants.{Fits, Refused}
 use Rattle.release.specs.Listing.{listing, standing}
 use Rattle.release.proofs.Releases.{release_here, releases_end, listed_none, listed_bad, listed_more}
-use Rattle.release.proofs.listing.all_listed.Statement.{statement}
-use Rattle.release.proofs.listing.all_listed.Tie as tie
-
-record Inv (q : Round) (n count timeout least i : ℕ) : Type 0 where
-  long : length q.releases ≡ 64
-  few : n ≤ 64
-  listed : n ≡ q.listed
-  said : (tab : rules.Table) → length tab.tasks ≡ count → tab.timeout ≡ timeout
-      → ill_listed tab 0 (releases_of q) ≡ ill_listed tab least (drop i (releases_of q))
+use Rattle.release.proofs.listing.all_listed.Invariants.{Inv}
+use Rattle.release.proofs.listing.all_listed.Goals as goal
 
 inv_start : {q : Round} {count timeout : ℕ} → length q.releases ≡ 64 → q.listed ≤ 64 → Inv q q.listed count timeout 0 0
 inv_start l h = record { long = l; few = h; listed = refl; said = λ tab e f. refl }
@@ -64,59 +57,14 @@ module _ {q : Round} {n count timeout least i : ℕ} (v : Inv q n count timeout 
         rw here (listed_bad (table_of t) least (release_of (get_or q.releases i no_release)) (drop (i + 1) (releases_of q)) (rw (m, f) p) g) in
         ap (standing 15) (sym (v.said (table_of t) m f ∙ bad))
 
-abbrev invariant_loop : tie.invariant-loop
-invariant_loop q n count timeout least₀ i₀ least i = Inv q n count timeout least i
+pub loop-i-init : goal.loop-i-init
+loop-i-init c = inv_start (search length_of_map) (omega arith)
 
-abbrev decreases_loop : tie.decreases-loop
-decreases_loop q n count timeout least₀ i₀ least i = n - i
+pub returns-in_default : goal.returns-in_default
+returns-in_default c = search inv_bad
 
-loop_holds : tie.Need-loop-init invariant_loop decreases_loop
-loop_holds c = inv_start (search length_of_map) (omega arith)
+pub loop-i-preserved : goal.loop-i-preserved
+loop-i-preserved c = search inv_more
 
-mul_x : tie.Need-overflow-mul-x invariant_loop decreases_loop
-mul_x c = search rules
-
-element_copy_out_x : tie.Need-element-copy-out-x invariant_loop decreases_loop
-element_copy_out_x c = search rules
-
-check_listed_requires : tie.Need-check-listed-requires invariant_loop decreases_loop
-check_listed_requires c κs = search rules
-
-enum_known_check : tie.Need-enum-known-check invariant_loop decreases_loop
-enum_known_check c = search rules
-
-enum_told : tie.Need-enum-told invariant_loop decreases_loop
-enum_told c = search rules
-
-returns : tie.Need-returns invariant_loop decreases_loop
-returns c = search inv_bad
-
-add_i : tie.Need-overflow-add-i invariant_loop decreases_loop
-add_i c = search rules
-
-loop_less : tie.Need-loop-smaller invariant_loop decreases_loop
-loop_less c = search rules
-
-loop_again : tie.Need-loop-preserved invariant_loop decreases_loop
-loop_again c = search inv_more
-
-returns_2 : tie.Need-returns-2 invariant_loop decreases_loop
-returns_2 c = search inv_done
-
-pub all_listed_spec : {M : Type 1} → statement M
-all_listed_spec =
-    tie.close
-    (tie.spec
-    invariant_loop
-    decreases_loop
-    loop_holds
-    mul_x
-    element_copy_out_x
-    check_listed_requires
-    enum_known_check
-    enum_told
-    returns
-    add_i
-    loop_less
-    loop_again
-    returns_2)
+pub returns : goal.returns
+returns c = search inv_done

@@ -13,15 +13,8 @@ use Rattle.laws.specs.Search.{up_to_last}
 use Rattle.laws.proofs.Insertion.{last_none, last_skip, last_here}
 use Rattle.release.specs.Insertion.{place_in, Packed}
 use Rattle.release.proofs.Order.{packed_long}
-use Rattle.release.proofs.insertion.place.Statement.{statement}
-use Rattle.release.proofs.insertion.place.Tie as tie
-
-record Inv (tasks : List ℕ) (count past task p : ℕ) : Type 0 where
-  long : length tasks ≡ 256
-  few : count ≤ 256
-  from : past ≤ p
-  to : p ≤ count
-  none : up_to_last (λ j. not (task <? j)) (drop p (take count tasks)) ≡ 0
+use Rattle.release.proofs.insertion.place.Invariants.{Inv}
+use Rattle.release.proofs.insertion.place.Goals as goal
 
 kept_long : (tasks : List ℕ) (count : ℕ) → length tasks ≡ 256 → count ≤ 256 → length (take count tasks) ≡ count
 kept_long tasks count l h = length-take-le count tasks (omega arith)
@@ -68,47 +61,14 @@ module _ {tasks : List ℕ} {count past task p : ℕ} (v : Inv tasks count past 
     inv_found m =
         omega (arith, last_here (λ j. not (task <? j)) (take count tasks) (p - 1) 0 inside there none_past past (omega arith) (rw (le-ltb task other m)))
 
-abbrev invariant_loop : tie.invariant-loop
-invariant_loop tasks count past task p₀ p = Inv tasks count past task p
+pub loop-p-init : goal.loop-p-init
+loop-p-init c = inv_start c.requires.0 (omega arith)
 
-abbrev decreases_loop : tie.decreases-loop
-decreases_loop tasks count past task p₀ p = p
+pub returns-then-other-task : goal.returns-then-other-task
+returns-then-other-task c = search inv_found
 
-loop_holds : tie.Need-loop-init invariant_loop decreases_loop
-loop_holds c = inv_start c.requires.0 (omega arith)
+pub loop-p-preserved : goal.loop-p-preserved
+loop-p-preserved c = search inv_skip
 
-sub_i : tie.Need-overflow-sub-i invariant_loop decreases_loop
-sub_i c = search rules
-
-element_copy_out_wide : tie.Need-element-copy-out-wide invariant_loop decreases_loop
-element_copy_out_wide c = search rules
-
-wide_requires : tie.Need-wide-requires invariant_loop decreases_loop
-wide_requires c κs = search rules
-
-returns : tie.Need-returns invariant_loop decreases_loop
-returns c = search inv_found
-
-loop_less : tie.Need-loop-smaller invariant_loop decreases_loop
-loop_less c = search rules
-
-loop_again : tie.Need-loop-preserved invariant_loop decreases_loop
-loop_again c = search inv_skip
-
-returns_2 : tie.Need-returns-2 invariant_loop decreases_loop
-returns_2 c = search inv_done
-
-pub place_spec : {M : Type 1} → statement M
-place_spec =
-    tie.close
-    (tie.spec
-    invariant_loop
-    decreases_loop
-    loop_holds
-    sub_i
-    element_copy_out_wide
-    wide_requires
-    returns
-    loop_less
-    loop_again
-    returns_2)
+pub returns : goal.returns
+returns c = search inv_done

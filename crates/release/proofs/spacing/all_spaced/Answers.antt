@@ -21,19 +21,8 @@ use Rattle.release.specs.declared.spacing.Admit.TheVariants.{At, Refused}
 use Rattle.release.specs.Listing.{standing, Listable}
 use Rattle.release.specs.Spacing.{admission, spacing}
 use Rattle.release.proofs.Releases.{Soon, release_here, releases_end, few_listed, listable, early_none, early_bad, early_more}
-use Rattle.release.proofs.spacing.all_spaced.Statement.{statement}
-use Rattle.release.proofs.spacing.all_spaced.Tie as tie
-
-record Inv (t : Table) (q : Round) (earliest : List ℕ) (n time : ℕ) (next : List ℕ) (i : ℕ) : Type 0 where
-  fit : Listable t q
-  long : length q.releases ≡ 64
-  places : length next ≡ 64
-  distances : length t.distance ≡ 64
-  few : n ≤ 64
-  listed : n ≡ q.listed
-  now : time ≡ q.time
-  early : too_early (table_of t) q.time earliest (releases_of q) ≡ too_early (table_of t) q.time next (drop i (releases_of q))
-  after : foldl (next_E (table_of t) q.time) earliest (releases_of q) ≡ foldl (next_E (table_of t) q.time) next (drop i (releases_of q))
+use Rattle.release.proofs.spacing.all_spaced.Invariants.{Inv}
+use Rattle.release.proofs.spacing.all_spaced.Goals as goal
 
 inv_start : {t : Table} {q : Round} {earliest : List ℕ} → Listable t q → length q.releases ≡ 64 → length earliest ≡ 64 → length t.distance ≡ 64
     → Inv t q earliest q.listed q.time earliest 0
@@ -104,94 +93,39 @@ module _ {t : Table} {q : Round} {earliest : List ℕ} {n time : ℕ} {next : Li
           after = v.after ∙ rw (here, set_is);
         }
 
-abbrev invariant_loop : tie.invariant-loop
-invariant_loop t q n time before next₀ i₀ next i = Inv t q before n time next i
+pub loop-i-init : goal.loop-i-init
+loop-i-init c = inv_start c.requires (search length_of_map) (search rules) (search rules)
 
-abbrev decreases_loop : tie.decreases-loop
-decreases_loop t q n time before next₀ i₀ next i = n - i
+pub offset_bounds-next-task : goal.offset_bounds-next-task
+offset_bounds-next-task c = record { fits = search inv_scaled }
 
-loop_holds : tie.Need-loop-init invariant_loop decreases_loop
-loop_holds c = inv_start c.requires (search length_of_map) (search rules) (search rules)
+pub bounds-next-task : goal.bounds-next-task
+bounds-next-task c = search inv_task
 
-mul_x : tie.Need-overflow-mul-x invariant_loop decreases_loop
-mul_x c = search rules
+pub overflow_add-time : goal.overflow_add-time
+overflow_add-time c = record { fits = search inv_sum }
 
-element_copy_out_x : tie.Need-element-copy-out-x invariant_loop decreases_loop
-element_copy_out_x c = search rules
+pub returns-in_default : goal.returns-in_default
+returns-in_default c = search inv_bad
 
-mul_check_spaced : tie.Need-overflow-mul-check-spaced invariant_loop decreases_loop
-mul_check_spaced c = record { fits = search inv_scaled }
+pub offset_bounds-t-task : goal.offset_bounds-t-task
+offset_bounds-t-task c = record { fits = search inv_scaled }
 
-array_read_check_spaced : tie.Need-array-read-check-spaced invariant_loop decreases_loop
-array_read_check_spaced c = search inv_task
+pub bounds-t-task : goal.bounds-t-task
+bounds-t-task c = search inv_task
 
-add_check_spaced : tie.Need-overflow-add-check-spaced invariant_loop decreases_loop
-add_check_spaced c = record { fits = search inv_sum }
+pub overflow_add-next : goal.overflow_add-next
+overflow_add-next c = record { fits = search inv_next }
 
-check_spaced_requires : tie.Need-check-spaced-requires invariant_loop decreases_loop
-check_spaced_requires c κs = search rules
+pub offset_bounds-next-task-in-loop-i : goal.offset_bounds-next-task-in-loop-i
+offset_bounds-next-task-in-loop-i c = record { fits = search inv_scaled }
 
-enum_known_check : tie.Need-enum-known-check invariant_loop decreases_loop
-enum_known_check c = search rules
+pub bounds-next-task-in-loop-i : goal.bounds-next-task-in-loop-i
+bounds-next-task-in-loop-i c = search inv_task
 
-enum_told : tie.Need-enum-told invariant_loop decreases_loop
-enum_told c = search rules
+pub loop-i-preserved : goal.loop-i-preserved
+loop-i-preserved c =
+    inv_more c.loop-i.invariant c.loop-i-test.true c.check_spaced-check.ensures c.in-At.is
 
-returns : tie.Need-returns invariant_loop decreases_loop
-returns c = search inv_bad
-
-mul_next : tie.Need-overflow-mul-next invariant_loop decreases_loop
-mul_next c = record { fits = search inv_scaled }
-
-element_copy_out_next : tie.Need-element-copy-out-next invariant_loop decreases_loop
-element_copy_out_next c = search inv_task
-
-add_next : tie.Need-overflow-add-next invariant_loop decreases_loop
-add_next c = record { fits = search inv_next }
-
-mul_next_2 : tie.Need-overflow-mul-next-2 invariant_loop decreases_loop
-mul_next_2 c = record { fits = search inv_scaled }
-
-array_write_next : tie.Need-array-write-next invariant_loop decreases_loop
-array_write_next c = search inv_task
-
-add_i : tie.Need-overflow-add-i invariant_loop decreases_loop
-add_i c = search rules
-
-loop_less : tie.Need-loop-smaller invariant_loop decreases_loop
-loop_less c = search rules
-
-loop_again : tie.Need-loop-preserved invariant_loop decreases_loop
-loop_again c =
-    let check = c.before.before.before.before in
-    let turn = check.before.before.before in
-    inv_more turn.before.loop.invariant turn.loop-test.true check.check-spaced.ensures c.before.before.check.given.1
-
-returns_2 : tie.Need-returns-2 invariant_loop decreases_loop
-returns_2 c = search inv_done
-
-pub all_spaced_spec : {M : Type 1} → statement M
-all_spaced_spec =
-    tie.close
-    (tie.spec
-    invariant_loop
-    decreases_loop
-    loop_holds
-    mul_x
-    element_copy_out_x
-    mul_check_spaced
-    array_read_check_spaced
-    add_check_spaced
-    check_spaced_requires
-    enum_known_check
-    enum_told
-    returns
-    mul_next
-    element_copy_out_next
-    add_next
-    mul_next_2
-    array_write_next
-    add_i
-    loop_less
-    loop_again
-    returns_2)
+pub returns : goal.returns
+returns c = search inv_done

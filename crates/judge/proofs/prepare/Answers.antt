@@ -1,0 +1,17 @@
+-- `judge::prepare` meets its contract: the walk tells how far the bound is kept. Assumes nothing.
+use Rattle.judge.proofs.Walking.{start_small, may_sum, slack_small, may_bound, from_within, clear_fits, prepared_is}
+use borrow.Author.Rules.{rules}
+use Rattle.judge.proofs.prepare.Goals as goal
+
+pub walk_order-w-requires : goal.walk_order-w-requires
+walk_order-w-requires c = record {
+  summable = search (rules, may_sum, start_small);
+  boundable = search (rules, may_bound, slack_small);
+  from_le_kept = search (rules, from_within);
+}
+
+pub overflow_add-clear : goal.overflow_add-clear
+overflow_add-clear c = search (rules, clear_fits, from_within)
+
+pub returns : goal.returns
+returns c = search prepared_is

@@ -1,0 +1,31 @@
+-- `insertion::all_put` meets its contract. The invariant: what is left of the list, put into what the array holds, gives what the whole gives put into
+-- what it held at entry.
+use mathlib.Core.Path.{◌≡◌, refl, sym, ap, ap₂, ◌∙◌}
+use mathlib.Core.List.{List, [], ◌∷◌}
+use Prim.Native.Nat.{ℕ, ◌+◌, ◌-◌, ◌^◌, ◌≤◌, ◌<◌}
+use native.Mathlib.Omega.{arith}
+use borrow.Author.Rules.{rules}
+use lib.ListN.{length, take, drop, get_or}
+use Rattle.laws.specs.Lists.{pad, push_in}
+use Rattle.laws.proofs.Lists.{length_of_map}
+use Rattle.round.specs.declared.Round.{Round}
+use Rattle.round.specs.Round.{release_of, releases_of, no_release}
+use Rattle.release.specs.Insertion.{place_in, put_in, put_all, Packed, Room}
+use Rattle.release.proofs.Releases.{release_here, releases_end}
+use Rattle.release.proofs.Order.{packed_kept, packed_pad, place_within, put_long, put_packed, put_none, put_more}
+use Rattle.release.proofs.insertion.all_put.Given as goal
+
+pub record Inv (tasks : List ℕ) (count past : ℕ) (q : Round) (n : ℕ) (next : List ℕ) (i : ℕ) : Type 0 where
+  pub long : length q.releases ≡ 64
+  pub room : Room count past q
+  pub few : n ≤ 64
+  pub listed : n ≡ q.listed
+  pub to : i ≤ n
+  pub packed : Packed next (count + i)
+  pub to_do : put_all past (take count tasks) (releases_of q) ≡ put_all past (take (count + i) next) (drop i (releases_of q))
+
+abbrev pub invariant-loop-i : goal.invariant-loop-i
+invariant-loop-i l = Inv l.initial.next l.count l.past l.q l.n l.next l.i
+
+abbrev pub decreases-loop-i : goal.decreases-loop-i
+decreases-loop-i l = l.n - l.i
