@@ -1,5 +1,6 @@
 // A round record applied to a common record: refusals 3, 14, 15, 16 and 17, and the close.
 #![tactic(auto)]
+
 ghost use Rattle.std.specs.Prelude.{◌≡◌};
 ghost use Rattle.rules.specs.Answer.{refused};
 ghost use Rattle.rules.specs.Close.{close};

@@ -1,6 +1,7 @@
 // "The reports of a round are a list of records that the caller lends": the list is walked by a thin function over the judge of one report by value. What
 // all reports share is prepared once, before the first.
 #![tactic(auto)]
+
 ghost use Rattle.std.specs.Prelude.{◌≡◌, ◌≤◌, take};
 ghost use Rattle.table.specs.Table.{table_of};
 ghost use Rattle.common.specs.Common.{common_of};

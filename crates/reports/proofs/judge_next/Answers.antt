@@ -12,8 +12,7 @@ use Rattle.reports.specs.declared.Told.{Told}
 use Rattle.reports.specs.declared.Judging.{Judging}
 use Rattle.reports.specs.Reports.{told_of, judged, with_next}
 use borrow.Author.Rules.{rules}
-use Rattle.reports.proofs.judge_next.Statement.{statement}
-use Rattle.reports.proofs.judge_next.Tie as tie
+use Rattle.reports.proofs.judge_next.Goals as goal
 
 module _ (a : Judging) (e : Told) where
   full : 15 ≤ a.count → a ≡ with_next a e
@@ -31,35 +30,8 @@ module _ (a : Judging) (e : Told) where
     unfolding with_next
     more = rw (lt-leb 15 a.count h) (ap (λ (x : Classed). record { prepared = a.prepared; count = a.count + 1; all = set a.all a.count x }) is_judged)
 
-returns : tie.Need-returns
-returns c = search full
+pub returns-then-k-ge15 : goal.returns-then-k-ge15
+returns-then-k-ge15 c = search full
 
-entry_of_requires : tie.Need-entry-of-requires
-entry_of_requires c κs = search rules
-
-classed_entry_requires : tie.Need-classed-entry-requires
-classed_entry_requires c κs = search rules
-
-mul_x : tie.Need-overflow-mul-x
-mul_x c = search rules
-
-element_set_from_x : tie.Need-element-set-from-x
-element_set_from_x c = search rules
-
-add_next : tie.Need-overflow-add-next
-add_next c = search rules
-
-returns_2 : tie.Need-returns-2
-returns_2 c = search more
-
-pub judge_next_spec : {M : Type 1} → statement M
-judge_next_spec =
-    tie.close
-    (tie.spec
-    returns
-    entry_of_requires
-    classed_entry_requires
-    mul_x
-    element_set_from_x
-    add_next
-    returns_2)
+pub returns : goal.returns
+returns c = search more

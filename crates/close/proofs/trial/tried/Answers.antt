@@ -18,8 +18,7 @@ use Rattle.release.specs.declared.spacing.Spaced.{Spaced}
 use Rattle.release.specs.Listing.{standing, Listable}
 use Rattle.release.specs.Spacing.{spacing}
 use Rattle.close.specs.Trial.{trial}
-use Rattle.close.proofs.trial.tried.Statement.{statement}
-use Rattle.close.proofs.trial.tried.Tie as tie
+use Rattle.close.proofs.trial.tried.Goals as goal
 
 standing_yes : (b : Bool) {k : ℕ} → standing 15 b ≡ Refused k → b ≡ true
 standing_yes true e = refl
@@ -57,43 +56,17 @@ module _ (t : Table) (c : Common) (q : Round) where
         unfolding trial
         is_spaced e = rw (lt-leb 281474976710656 q.time in_time, ← p, apart, well) e
 
-returns : tie.Need-returns
-returns c = search is_late
+pub returns-then-time-ge-TOO_LATE : goal.returns-then-time-ge-TOO_LATE
+returns-then-time-ge-TOO_LATE c = search is_late
 
-early_round_requires : tie.Need-early-round-requires
-early_round_requires c κs = search rules
+pub returns-then-early : goal.returns-then-early
+returns-then-early c = search is_early
 
-returns_2 : tie.Need-returns-2
-returns_2 c = search is_early
+pub returns-in_default : goal.returns-in_default
+returns-in_default c = search is_ill_formed
 
-well_formed_requires : tie.Need-well-formed-requires
-well_formed_requires c κs = search rules
+pub all_spaced-requires : goal.all_spaced-requires
+all_spaced-requires c = search is_listable
 
-enum_told : tie.Need-enum-told
-enum_told c = search rules
-
-enum_told_2 : tie.Need-enum-told-2
-enum_told_2 c = search rules
-
-returns_3 : tie.Need-returns-3
-returns_3 c = search is_ill_formed
-
-all_spaced_requires : tie.Need-all-spaced-requires
-all_spaced_requires c κs = search is_listable
-
-returns_4 : tie.Need-returns-4
-returns_4 c = search is_spaced
-
-pub tried_spec : {M : Type 1} → statement M
-tried_spec =
-    tie.close
-    (tie.spec
-    returns
-    early_round_requires
-    returns_2
-    well_formed_requires
-    enum_told
-    enum_told_2
-    returns_3
-    all_spaced_requires
-    returns_4)
+pub returns : goal.returns
+returns c = search is_spaced

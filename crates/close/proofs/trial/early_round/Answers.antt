@@ -12,8 +12,7 @@ use Rattle.table.proofs.Facts.{ranges}
 use Rattle.common.specs.declared.Common.{Common}
 use Rattle.common.specs.Common.{common_of, Given}
 use Rattle.common.proofs.Records.{numbers}
-use Rattle.close.proofs.trial.early_round.Statement.{statement}
-use Rattle.close.proofs.trial.early_round.Tie as tie
+use Rattle.close.proofs.trial.early_round.Goals as goal
 
 last_sum : {t : Table} {c : Common} → Checked t → Given t c → c.last + t.timeout < 2 ^ 64
 last_sum k g = omega (arith, (ranges k).timeout, (numbers g).last)
@@ -25,14 +24,8 @@ not_first t c time h = by c.begun h
     by true e = refl
     by false e = absurd (false≢true e)
 
-add_result : tie.Need-overflow-add-result
-add_result c = record { fits = search last_sum }
+pub overflow_add-result : goal.overflow_add-result
+overflow_add-result c = record { fits = search last_sum }
 
-returns : tie.Need-returns
-returns c = search not_first
-
-returns_2 : tie.Need-returns-2
-returns_2 c = search rules
-
-pub early_round_spec : {M : Type 1} → statement M
-early_round_spec = tie.close (tie.spec add_result returns returns_2)
+pub returns-then-begun : goal.returns-then-begun
+returns-then-begun c = search not_first

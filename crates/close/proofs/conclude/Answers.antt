@@ -11,8 +11,7 @@ use Rattle.judge.specs.declared.Judgement.{Judgement}
 use Rattle.close.specs.declared.Closing.{Closing}
 use Rattle.close.specs.declared.Outcome.TheVariants.{Accepted}
 use Rattle.close.specs.Close.{closing, after, conclusion}
-use Rattle.close.proofs.conclude.Statement.{statement}
-use Rattle.close.proofs.conclude.Tie as tie
+use Rattle.close.proofs.conclude.Goals as goal
 
 module _ (c : Common) (j : Judgement) (E : List ℕ) (q : Round) where
   too_many : j.base + 256 < c.base + c.count + q.listed → {r : Closing} → r ≡ closing c (refused 17) → r ≡ conclusion c j E q
@@ -26,28 +25,8 @@ module _ (c : Common) (j : Judgement) (E : List ℕ) (q : Round) where
       rw (le-ltb (j.base + 256) (c.base + c.count + q.listed) h)
       (ap (λ (d : Common). record { outcome = Accepted; common = d; classes = j.classes; back = j.back; majority = j.majority }) e)
 
-add_length : tie.Need-overflow-add-length
-add_length c = search rules
+pub returns-then-j-longer : goal.returns-then-j-longer
+returns-then-j-longer c = search too_many
 
-add_longer : tie.Need-overflow-add-longer
-add_longer c = search rules
-
-add_if1 : tie.Need-overflow-add-if1
-add_if1 c = search rules
-
-refuse_requires : tie.Need-refuse-requires
-refuse_requires c κs = search rules
-
-returns : tie.Need-returns
-returns c = search too_many
-
-apply_requires : tie.Need-apply-requires
-apply_requires c κs = search rules
-
-returns_2 : tie.Need-returns-2
-returns_2 c = search all_fit
-
-pub conclude_spec : {M : Type 1} → statement M
-conclude_spec =
-    tie.close
-    (tie.spec add_length add_longer add_if1 refuse_requires returns apply_requires returns_2)
+pub returns : goal.returns
+returns c = search all_fit

@@ -1,0 +1,6 @@
+-- `reports::begin` meets its contract. Assumes nothing.
+use borrow.Author.Rules.{rules}
+use Rattle.reports.proofs.begin.Goals as goal
+
+pub returns : goal.returns
+returns c = rw (c.prepare-prepared.ensures, c.none_classed-all.ensures)
