@@ -111,12 +111,12 @@ names n (refused j) h = let z : ◌≡◌ {A = ℕ} 0 1 = cc in absurd (omega ar
 names n (refused_by j l) h = let z : ◌≡◌ {A = ℕ} 0 1 = cc in absurd (omega arith)
 
 -- a call that the rules accept gives back their node
-goes_on : {A R : Type 0} (call : rules.Node → Answer A) (reply : Answer A → R) (node_of : R → Node) (out : A → rules.Node) {m n : rules.Node} {r : R} {x : A}
-    → r ≡ reply (call m) → m ≡ n → call n ≡ done x → node_of (reply (done x)) ≡ node_as (out x) → node_of (node_of r) ≡ out x
-goes_on {A} {R} call reply node_of out {x = x} p e d h =
-    ap (λ (r : R). node_of (node_of r)) p
-    ∙ ap (λ (n : rules.Node). node_of (node_of (reply (call n)))) e
-    ∙ ap (λ (a : Answer A). node_of (node_of (reply a))) d
+goes_on : {A R : Type 0} (call : rules.Node → Answer A) (reply : Answer A → R) (given : R → Node) (out : A → rules.Node) {m n : rules.Node} {r : R} {x : A}
+    → r ≡ reply (call m) → m ≡ n → call n ≡ done x → given (reply (done x)) ≡ node_as (out x) → node_of (given r) ≡ out x
+goes_on {A} {R} call reply given out {x = x} p e d h =
+    ap (λ (r : R). node_of (given r)) p
+    ∙ ap (λ (n : rules.Node). node_of (given (reply (call n)))) e
+    ∙ ap (λ (a : Answer A). node_of (given (reply a))) d
     ∙ ap node_of h
     ∙ node_back (out x)
 

@@ -1,5 +1,6 @@
 // What a node does: start, finish, report and close.
 #![tactic(auto)]
+
 ghost use Rattle.std.specs.Prelude.{◌≡◌, max};
 ghost use Rattle.laws.specs.Tests.{found};
 ghost use Rattle.rules.specs.Node.{new_node, fresh_node, start, finish, report_of, report, node_close};

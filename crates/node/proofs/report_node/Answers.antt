@@ -16,14 +16,7 @@ use Rattle.node.specs.declared.Check.TheVariants as check
 use Rattle.node.specs.Node.{node_of, round_of, clock_rule, check_of, Given, Asking, reporting, reported_now}
 use Rattle.node.proofs.Laws.{rebuilt, clock_stops, clock_runs, on_time, stopped, passed}
 use borrow.Author.Rules.{rules}
-use Rattle.node.proofs.report_node.Statement.{statement}
-use Rattle.node.proofs.report_node.Tie as tie
-use Rattle.node.proofs.report_node.Reads as reads
-use Rattle.node.proofs.report_node.Lts as lts
-use Rattle.node.proofs.clock_check.Reads as clock-check-reads
-use Rattle.node.proofs.is_open.Reads as is-open-reads
-use Rattle.node.proofs.reported.Reads as reported-reads
-use Rattle.node.proofs.run_at.Reads as run-at-reads
+use Rattle.node.proofs.report_node.Goals as goal
 
 module _ {t : Table} {n : Node} (v : Given t n) (r : ℕ) {a : Check} (p : a ≡ check_of (clock_rule n.latest n.progress n.common.base r)) where
   abbrev Says : Reporting → Type 0
@@ -53,43 +46,14 @@ module _ {t : Table} {n : Node} (v : Given t n) (r : ℕ) {a : Check} (p : a ≡
           (rebuilt n v.exact n.progress n.completed n.running r (reported_now n r (rules.report_of (table_of t) (node_of n) r).run).node.round)
           ∙ ap (reporting n) (sym (clock_runs _ n.latest n.progress n.common.base r p h ∙ passed 11 (done (when_reported (table_of t) (node_of n) r)) (sym k ∙ e)))
 
-clock_check_requires : tie.Need-clock-check-requires
-clock_check_requires c κs = search rules
+pub returns-in-Refused : goal.returns-in-Refused
+returns-in-Refused c = search stops
 
-enum_known_checked : tie.Need-enum-known-checked
-enum_known_checked c = search rules
+pub returns-then-already : goal.returns-then-already
+returns-then-already c = search open_11
 
-returns : tie.Need-returns
-returns c = search stops
+pub run_at-run-requires : goal.run_at-run-requires
+run_at-run-requires c = search asking
 
-enum_told : tie.Need-enum-told
-enum_told c = search rules
-
-is_open_requires : tie.Need-is-open-requires
-is_open_requires c κs = search rules
-
-returns_2 : tie.Need-returns-2
-returns_2 c = search open_11
-
-run_at_requires : tie.Need-run-at-requires
-run_at_requires c κs = search asking
-
-reported_requires : tie.Need-reported-requires
-reported_requires c κs = search rules
-
-returns_3 : tie.Need-returns-3
-returns_3 c = search sends
-
-pub report_node_spec : {M : Type 1} → statement M
-report_node_spec =
-    tie.close
-    (tie.spec
-    clock_check_requires
-    enum_known_checked
-    returns
-    enum_told
-    is_open_requires
-    returns_2
-    run_at_requires
-    reported_requires
-    returns_3)
+pub returns : goal.returns
+returns c = search sends

@@ -11,11 +11,7 @@ use Rattle.node.specs.declared.MakeAnswer.TheVariants as make
 use Rattle.node.specs.Node.{node_as, making}
 use Rattle.node.proofs.Laws.{stopped, passed}
 use borrow.Author.Rules.{rules}
-use Rattle.node.proofs.fresh_node.Statement.{statement}
-use Rattle.node.proofs.fresh_node.Tie as tie
-use Rattle.node.proofs.fresh_node.Reads as reads
-use Rattle.node.proofs.fresh_node.Lts as lts
-use Rattle.node.proofs.new_node.Reads as new-node-reads
+use Rattle.node.proofs.fresh_node.Goals as goal
 
 module _ (t : Table) (i : ℕ) {n : Node} where
   too_high : t.nodes ≤ i → n ≡ node_as (rules.new_node 0) → record { answer = make.Refused 1; node = n } ≡ making (rules.fresh_node (table_of t) i)
@@ -27,17 +23,8 @@ module _ (t : Table) (i : ℕ) {n : Node} where
   unfolding rules.fresh_node
   made h e = ap (λ (n : Node). record { answer = make.Made; node = n }) e ∙ ap making (sym (passed 1 (done (rules.new_node i)) (lt-leb t.nodes i h)))
 
-new_node_requires : tie.Need-new-node-requires
-new_node_requires c κs = search rules
+pub returns-then-table-number : goal.returns-then-table-number
+returns-then-table-number c = search too_high
 
-returns : tie.Need-returns
-returns c = search too_high
-
-new_node_requires_2 : tie.Need-new-node-requires-2
-new_node_requires_2 c κs = search rules
-
-returns_2 : tie.Need-returns-2
-returns_2 c = search made
-
-pub fresh_node_spec : {M : Type 1} → statement M
-fresh_node_spec = tie.close (tie.spec new_node_requires returns new_node_requires_2 returns_2)
+pub returns : goal.returns
+returns c = search made

@@ -20,12 +20,7 @@ use Rattle.common.specs.Positions.{Projectable, Occupied}
 use Rattle.common.proofs.Records.{length_is, numbers}
 use Rattle.node.specs.Node.{broken_at, Reachable, next_soon_at}
 use borrow.Author.Rules.{rules}
-use Rattle.node.proofs.next_soon.Statement.{statement}
-use Rattle.node.proofs.next_soon.Tie as tie
-use Rattle.node.proofs.next_soon.Reads as reads
-use Rattle.node.proofs.next_soon.Lts as lts
-use Rattle.common.proofs.projection_of.Reads as projection-of-reads
-use Rattle.node.proofs.broken_at.Reads as broken-at-reads
+use Rattle.node.proofs.next_soon.Goals as goal
 
 -- "is ≤ O or within the bound": what an answer says of it
 may_go : {d : Breach} (b : Bool) (o : Option ℕ) → d ≡ breach_of (if b then none else o) → d ≡ breach.Met → (b || not (found o)) ≡ true
@@ -81,47 +76,26 @@ module _ {t : Table} {c : Common} {progress r : ℕ} (v : Reachable t c progress
             let e = may_go (progress + 1 ≤? (common_of c).O) (breaker (table_of t) (common_of c) (progress + 1) r) m g in
             rw (exists, e, p)
 
-add_length : tie.Need-overflow-add-length
-add_length c = record { fits = search length_small }
+pub overflow_add-length : goal.overflow_add-length
+overflow_add-length c = record { fits = search length_small }
 
-returns : tie.Need-returns
-returns c = search none_left
+pub returns-then-length-progress : goal.returns-then-length-progress
+returns-then-length-progress c = search none_left
 
-add_broken_at : tie.Need-overflow-add-broken-at
-add_broken_at c = record { fits = search position_small }
+pub overflow_add-progress : goal.overflow_add-progress
+overflow_add-progress c = record { fits = search position_small }
 
-broken_at_requires : tie.Need-broken-at-requires
-broken_at_requires c κs = search occupied
+pub broken_at-breach-requires : goal.broken_at-breach-requires
+broken_at-breach-requires c = search occupied
 
-enum_known_breach : tie.Need-enum-known-breach
-enum_known_breach c = search rules
+pub returns-in-By : goal.returns-in-By
+returns-in-By c = search held_back
 
-returns_2 : tie.Need-returns-2
-returns_2 c = search held_back
+pub projection_of-end-requires : goal.projection_of-end-requires
+projection_of-end-requires c = search projectable
 
-enum_told : tie.Need-enum-told
-enum_told c = search rules
+pub overflow_add-result : goal.overflow_add-result
+overflow_add-result c = record { fits = search sum_small }
 
-projection_of_requires : tie.Need-projection-of-requires
-projection_of_requires c κs = search projectable
-
-add_result : tie.Need-overflow-add-result
-add_result c = record { fits = search sum_small }
-
-returns_3 : tie.Need-returns-3
-returns_3 c = search by_time
-
-pub next_soon_spec : {M : Type 1} → statement M
-next_soon_spec =
-    tie.close
-    (tie.spec
-    add_length
-    returns
-    add_broken_at
-    broken_at_requires
-    enum_known_breach
-    returns_2
-    enum_told
-    projection_of_requires
-    add_result
-    returns_3)
+pub returns : goal.returns
+returns c = search by_time

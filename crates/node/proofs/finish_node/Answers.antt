@@ -15,11 +15,7 @@ use Rattle.node.specs.declared.FinishAnswer.TheVariants as finish
 use Rattle.node.specs.Node.{node_of, clock_rule, check_of, Ours, finishing}
 use Rattle.node.proofs.Laws.{rebuilt, clock_stops, clock_runs}
 use borrow.Author.Rules.{rules}
-use Rattle.node.proofs.finish_node.Statement.{statement}
-use Rattle.node.proofs.finish_node.Tie as tie
-use Rattle.node.proofs.finish_node.Reads as reads
-use Rattle.node.proofs.finish_node.Lts as lts
-use Rattle.node.proofs.clock_check.Reads as clock-check-reads
+use Rattle.node.proofs.finish_node.Goals as goal
 
 module _ (n : Node) (now : ℕ) {a : Check} (p : a ≡ check_of (clock_rule n.latest n.progress n.common.base now)) where
   stops : {k : ℕ} → a ≡ check.Refused k → record { answer = finish.Refused k; node = n } ≡ finishing n (rules.finish (node_of n) now)
@@ -58,35 +54,14 @@ small n v e =
     let p : n.progress + 1 ≤ L (common_of n.common) = rw r at s.progress in
     omega (arith, L_below s.common)
 
-clock_check_requires : tie.Need-clock-check-requires
-clock_check_requires c κs = search rules
+pub returns-in-Refused : goal.returns-in-Refused
+returns-in-Refused c = search stops
 
-enum_known_checked : tie.Need-enum-known-checked
-enum_known_checked c = search rules
+pub returns-then-not-node : goal.returns-then-not-node
+returns-then-not-node c = search idle
 
-returns : tie.Need-returns
-returns c = search stops
+pub overflow_add-next : goal.overflow_add-next
+overflow_add-next c = record { fits = search small }
 
-enum_told : tie.Need-enum-told
-enum_told c = search rules
-
-returns_2 : tie.Need-returns-2
-returns_2 c = search idle
-
-add_next : tie.Need-overflow-add-next
-add_next c = record { fits = search small }
-
-returns_3 : tie.Need-returns-3
-returns_3 c = search finished
-
-pub finish_node_spec : {M : Type 1} → statement M
-finish_node_spec =
-    tie.close
-    (tie.spec
-    clock_check_requires
-    enum_known_checked
-    returns
-    enum_told
-    returns_2
-    add_next
-    returns_3)
+pub returns : goal.returns
+returns c = search finished

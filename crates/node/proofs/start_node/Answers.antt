@@ -23,13 +23,7 @@ use Rattle.node.specs.declared.Check.TheVariants as check
 use Rattle.node.specs.Node.{node_of, clock_rule, check_of, Given, Asking, permission_rule, permission_of, Startable, starting, started_now}
 use Rattle.node.proofs.Laws.{rebuilt, clock_stops, clock_runs, on_time, permission_stops, permission_waits, permission_grants, common_given, progress_within, strictly}
 use borrow.Author.Rules.{rules}
-use Rattle.node.proofs.start_node.Statement.{statement}
-use Rattle.node.proofs.start_node.Tie as tie
-use Rattle.node.proofs.start_node.Reads as reads
-use Rattle.node.proofs.start_node.Lts as lts
-use Rattle.node.proofs.clock_check.Reads as clock-check-reads
-use Rattle.node.proofs.may_start.Reads as may-start-reads
-use Rattle.node.proofs.started.Reads as started-reads
+use Rattle.node.proofs.start_node.Goals as goal
 
 module _ {t : Table} {n : Node} (v : Given t n) (now : ℕ) {a : Check} (p : a ≡ check_of (clock_rule n.latest n.progress n.common.base now)) where
   abbrev Says : Starting → Type 0
@@ -77,55 +71,20 @@ module _ {t : Table} {n : Node} (v : Given t n) (now : ℕ) {a : Check} (p : a �
             ∙ ap (λ (x : Node). record { answer = (started_now n now).answer; node = x }) (rebuilt n v.exact n.progress n.completed true now n.round)
             ∙ ap (starting n) (sym all_pass.0)
 
-clock_check_requires : tie.Need-clock-check-requires
-clock_check_requires c κs = search rules
+pub returns-in-Refused : goal.returns-in-Refused
+returns-in-Refused c = search stops
 
-enum_known_checked : tie.Need-enum-known-checked
-enum_known_checked c = search rules
+pub may_start-permitted-requires : goal.may_start-permitted-requires
+may_start-permitted-requires c = search asking
 
-returns : tie.Need-returns
-returns c = search stops
+pub started-requires : goal.started-requires
+started-requires c = search startable
 
-enum_told : tie.Need-enum-told
-enum_told c = search rules
+pub returns-in-Refused-permitted : goal.returns-in-Refused-permitted
+returns-in-Refused-permitted c = search not_permitted
 
-may_start_requires : tie.Need-may-start-requires
-may_start_requires c κs = search asking
+pub returns-in-Waits : goal.returns-in-Waits
+returns-in-Waits c = search waits
 
-enum_known_permitted : tie.Need-enum-known-permitted
-enum_known_permitted c = search rules
-
-enum_known_permitted_2 : tie.Need-enum-known-permitted-2
-enum_known_permitted_2 c = search rules
-
-enum_told_2 : tie.Need-enum-told-2
-enum_told_2 c = search rules
-
-started_requires : tie.Need-started-requires
-started_requires c κs = search startable
-
-returns_2 : tie.Need-returns-2
-returns_2 c = search not_permitted
-
-returns_3 : tie.Need-returns-3
-returns_3 c = search waits
-
-returns_4 : tie.Need-returns-4
-returns_4 c = search goes
-
-pub start_node_spec : {M : Type 1} → statement M
-start_node_spec =
-    tie.close
-    (tie.spec
-    clock_check_requires
-    enum_known_checked
-    returns
-    enum_told
-    may_start_requires
-    enum_known_permitted
-    enum_known_permitted_2
-    enum_told_2
-    started_requires
-    returns_2
-    returns_3
-    returns_4)
+pub returns-in-Granted : goal.returns-in-Granted
+returns-in-Granted c = search goes

@@ -15,10 +15,7 @@ use Rattle.round.specs.declared.Place.{Place}
 use Rattle.round.specs.declared.Round.{Round}
 use Rattle.round.specs.Round.{entry_of, entry_as, no_entry}
 use borrow.Author.Rules.{rules}
-use Rattle.node.proofs.own.own_entry.Statement.{statement}
-use Rattle.node.proofs.own.own_entry.Tie as tie
-use Rattle.node.proofs.own.own_entry.Reads as reads
-use Rattle.node.proofs.own.own_entry.Lts as lts
+use Rattle.node.proofs.own.own_entry.Goals as goal
 
 entry_back : (x : Entry) → entry_as (entry_of x) ≡ x
 entry_back entry.Missing = refl
@@ -42,20 +39,11 @@ module _ (q : Round) (n : ℕ) where
       let e : get_or q.entries n no_entry ≡ no_entry = get_or-eq_default q.entries no_entry (omega arith) in
       ⊎_elim (λ k. ap (λ (p : Place). p.entry) (sym e) ∙ there k) past (lt_or_ge n q.entered)
 
-returns : tie.Need-returns
-returns c = search (outside, length_of_map)
+pub returns-then-number-ge15 : goal.returns-then-number-ge15
+returns-then-number-ge15 c = search (outside, length_of_map)
 
-returns_2 : tie.Need-returns-2
-returns_2 c = search past
+pub returns-then-q-k : goal.returns-then-q-k
+returns-then-q-k c = search past
 
-mul_place : tie.Need-overflow-mul-place
-mul_place c = search rules
-
-element_copy_out_place : tie.Need-element-copy-out-place
-element_copy_out_place c = search rules
-
-returns_3 : tie.Need-returns-3
-returns_3 c = search there
-
-pub own_entry_spec : {M : Type 1} → statement M
-own_entry_spec = tie.close (tie.spec returns returns_2 mul_place element_copy_out_place returns_3)
+pub returns : goal.returns
+returns c = search there

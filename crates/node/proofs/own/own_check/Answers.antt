@@ -22,12 +22,7 @@ use Rattle.node.specs.Node.{node_of, own_rule, check_of}
 use Rattle.node.specs.Node as values
 use Rattle.node.proofs.Laws.{stopped, passed}
 use borrow.Author.Rules.{rules}
-use Rattle.node.proofs.own.own_check.Statement.{statement}
-use Rattle.node.proofs.own.own_check.Tie as tie
-use Rattle.node.proofs.own.own_check.Reads as reads
-use Rattle.node.proofs.own.own_check.Lts as lts
-use Rattle.node.proofs.own.as_sent.Reads as as-sent-reads
-use Rattle.node.proofs.own.own_entry.Reads as own-entry-reads
+use Rattle.node.proofs.own.own_check.Goals as goal
 
 entry_kept : (x : Option judges.Report) → entry_of (entry_as x) ≡ x
 entry_kept none = refl
@@ -72,43 +67,17 @@ module _ (n : Node) (q : Round) where
         alike : not y ≡ false → Says check.Passes
         alike e = ap check_of (sym (passed 5 _ (le-ltb _ _ ahead) ∙ passed 12 _ this ∙ passed 13 (done tt) (told ∙ e)))
 
-returns : tie.Need-returns
-returns c = search left_5
+pub returns-then-node-base : goal.returns-then-node-base
+returns-then-node-base c = search left_5
 
-enum_told : tie.Need-enum-told
-enum_told c = search rules
+pub returns-then-open-q : goal.returns-then-open-q
+returns-then-open-q c = search other_12
 
-enum_known_round : tie.Need-enum-known-round
-enum_known_round c = search rules
+pub returns-then-not-same : goal.returns-then-not-same
+returns-then-not-same c = search unlike_13
 
-returns_2 : tie.Need-returns-2
-returns_2 c = search other_12
+pub returns-in-Shut : goal.returns-in-Shut
+returns-in-Shut c = search shut_12
 
-own_entry_requires : tie.Need-own-entry-requires
-own_entry_requires c κs = search rules
-
-as_sent_requires : tie.Need-as-sent-requires
-as_sent_requires c κs = search rules
-
-returns_3 : tie.Need-returns-3
-returns_3 c = search unlike_13
-
-returns_4 : tie.Need-returns-4
-returns_4 c = search shut_12
-
-returns_5 : tie.Need-returns-5
-returns_5 c = search alike
-
-pub own_check_spec : {M : Type 1} → statement M
-own_check_spec =
-    tie.close
-    (tie.spec
-    returns
-    enum_told
-    enum_known_round
-    returns_2
-    own_entry_requires
-    as_sent_requires
-    returns_3
-    returns_4
-    returns_5)
+pub returns-else-not-same : goal.returns-else-not-same
+returns-else-not-same c = search alike

@@ -24,13 +24,7 @@ use Rattle.node.specs.declared.Permission.TheVariants as permission
 use Rattle.node.specs.Node.{node_of, round_of, beyond_lock_at, broken_at, Lockable, Asking, permission_rule, permission_of}
 use Rattle.node.proofs.Laws.{stopped, passed, stopped_by, passed_by, common_given, progress_within, strictly}
 use borrow.Author.Rules.{rules}
-use Rattle.node.proofs.may_start.Statement.{statement}
-use Rattle.node.proofs.may_start.Tie as tie
-use Rattle.node.proofs.may_start.Reads as reads
-use Rattle.node.proofs.may_start.Lts as lts
-use Rattle.node.proofs.beyond_lock.Reads as beyond-lock-reads
-use Rattle.node.proofs.broken_at.Reads as broken-at-reads
-use Rattle.node.proofs.is_open.Reads as is-open-reads
+use Rattle.node.proofs.may_start.Goals as goal
 
 module _ {t : Table} {n : Node} {now : ℕ} (v : Asking t n now) where
   lockable : Lockable n.round
@@ -94,55 +88,29 @@ module _ {t : Table} {n : Node} {now : ℕ} (v : Asking t n now) where
           unfolding rules.beyond_lock rules.broken_now
           granted g = ap permission_of (sym (passed 6 _ idle ∙ passed 7 _ not_end ∙ passed 8 _ (sym k ∙ e) ∙ passed_by 9 (done tt) broken asked g))
 
-returns : tie.Need-returns
-returns c = search runs_6
+pub returns-then-node : goal.returns-then-node
+returns-then-node c = search runs_6
 
-add_length : tie.Need-overflow-add-length
-add_length c = record { fits = search length_small }
+pub overflow_add-length : goal.overflow_add-length
+overflow_add-length c = record { fits = search length_small }
 
-returns_2 : tie.Need-returns-2
-returns_2 c = search at_end_7
+pub returns-then-node-length : goal.returns-then-node-length
+returns-then-node-length c = search at_end_7
 
-add_position : tie.Need-overflow-add-position
-add_position c = record { fits = search position_small }
+pub overflow_add-position : goal.overflow_add-position
+overflow_add-position c = record { fits = search position_small }
 
-beyond_lock_requires : tie.Need-beyond-lock-requires
-beyond_lock_requires c κs = search lockable
+pub beyond_lock-beyond-requires : goal.beyond_lock-beyond-requires
+beyond_lock-beyond-requires c = search lockable
 
-returns_3 : tie.Need-returns-3
-returns_3 c = search locked_8
+pub returns-then-beyond : goal.returns-then-beyond
+returns-then-beyond c = search locked_8
 
-is_open_requires : tie.Need-is-open-requires
-is_open_requires c κs = search rules
+pub broken_at-breach-requires : goal.broken_at-breach-requires
+broken_at-breach-requires c = search occupied
 
-broken_at_requires : tie.Need-broken-at-requires
-broken_at_requires c κs = search occupied
+pub returns-in-By : goal.returns-in-By
+returns-in-By c = search broken_9
 
-enum_known_breach : tie.Need-enum-known-breach
-enum_known_breach c = search rules
-
-enum_told : tie.Need-enum-told
-enum_told c = search rules
-
-returns_4 : tie.Need-returns-4
-returns_4 c = search broken_9
-
-returns_5 : tie.Need-returns-5
-returns_5 c = search granted
-
-pub may_start_spec : {M : Type 1} → statement M
-may_start_spec =
-    tie.close
-    (tie.spec
-    returns
-    add_length
-    returns_2
-    add_position
-    beyond_lock_requires
-    returns_3
-    is_open_requires
-    broken_at_requires
-    enum_known_breach
-    enum_told
-    returns_4
-    returns_5)
+pub returns-in-Met : goal.returns-in-Met
+returns-in-Met c = search granted

@@ -10,11 +10,7 @@ use Rattle.common.specs.Common.{common_of}
 use Rattle.node.specs.declared.Node.{Node}
 use Rattle.node.specs.Node.{node_of, Asking, Reachable, next_soon_at}
 use Rattle.node.proofs.Laws.{common_given, progress_within}
-use Rattle.node.proofs.run_at.Statement.{statement}
-use Rattle.node.proofs.run_at.Tie as tie
-use Rattle.node.proofs.run_at.Reads as reads
-use Rattle.node.proofs.run_at.Lts as lts
-use Rattle.node.proofs.next_soon.Reads as next-soon-reads
+use Rattle.node.proofs.run_at.Goals as goal
 
 module _ {t : Table} {n : Node} {r : ℕ} (v : Asking t n r) where
   reachable : Reachable t n.common n.progress r
@@ -38,17 +34,14 @@ module _ {t : Table} {n : Node} {r : ℕ} (v : Asking t n r) where
     later : b ≡ false → 0 ≡ (rules.report_of (table_of t) (node_of n) r).run
     later e = sym (ap (run false) e) ∙ by_next
 
-returns : tie.Need-returns
-returns c = search runs
+pub returns-then-node : goal.returns-then-node
+returns-then-node c = search runs
 
-next_soon_requires : tie.Need-next-soon-requires
-next_soon_requires c κs = search reachable
+pub next_soon-soon-requires : goal.next_soon-soon-requires
+next_soon-soon-requires c = search reachable
 
-returns_2 : tie.Need-returns-2
-returns_2 c = search soon
+pub returns-then-soon : goal.returns-then-soon
+returns-then-soon c = search soon
 
-returns_3 : tie.Need-returns-3
-returns_3 c = search later
-
-pub run_at_spec : {M : Type 1} → statement M
-run_at_spec = tie.close (tie.spec returns next_soon_requires returns_2 returns_3)
+pub returns : goal.returns
+returns c = search later

@@ -9,11 +9,7 @@ use Rattle.common.specs.Common.{common_as}
 use Rattle.node.specs.declared.Opening.TheVariants as opening
 use Rattle.node.specs.Node.{node_as}
 use borrow.Author.Rules.{rules}
-use Rattle.node.proofs.new_node.Statement.{statement}
-use Rattle.node.proofs.new_node.Tie as tie
-use Rattle.node.proofs.new_node.Reads as reads
-use Rattle.node.proofs.new_node.Lts as lts
-use Rattle.common.proofs.Common.fresh.Reads as fresh-reads
+use Rattle.node.proofs.new_node.Goals as goal
 
 made : (i : ℕ) {c : Common} → c ≡ common_as fresh
     → record {
@@ -39,11 +35,5 @@ made i e =
     })
     e
 
-fresh_requires : tie.Need-fresh-requires
-fresh_requires c κs = search rules
-
-returns : tie.Need-returns
+pub returns : goal.returns
 returns c = search made
-
-pub new_node_spec : {M : Type 1} → statement M
-new_node_spec = tie.close (tie.spec fresh_requires returns)

@@ -25,14 +25,7 @@ use Rattle.node.specs.declared.Check.TheVariants as check
 use Rattle.node.specs.Node.{node_of, own_rule, check_of, Given, not_closed, node_closing, closed_now}
 use Rattle.node.proofs.Laws.{own_stops, own_passes, common_given}
 use borrow.Author.Rules.{rules}
-use Rattle.node.proofs.close_node.Statement.{statement}
-use Rattle.node.proofs.close_node.Tie as tie
-use Rattle.node.proofs.close_node.Reads as reads
-use Rattle.node.proofs.close_node.Lts as lts
-use Rattle.close.proofs.close_round.Reads as close-round-reads
-use Rattle.node.proofs.closed_now.Reads as closed-now-reads
-use Rattle.node.proofs.not_closed.Reads as not-closed-reads
-use Rattle.node.proofs.own.own_check.Reads as own-check-reads
+use Rattle.node.proofs.close_node.Goals as goal
 
 -- what the common record answered, by its outcome
 module _ (c : Common) where
@@ -90,59 +83,17 @@ module _ (t : Table) (n : Node) (q : Round) {a : Check} (p : a ≡ check_of (own
           ∙ ap (λ (x : Closing). closed_now n x (q.time + t.timeout)) (m ∙ ap (closing n.common) closed_so.1)
           ∙ sym (ap (node_closing n) (own_passes (then_closed answer) (node_of n) (round_of q) p h ∙ ap then_closed closed_so.1))
 
-own_check_requires : tie.Need-own-check-requires
-own_check_requires c κs = search rules
+pub returns-in-Refused : goal.returns-in-Refused
+returns-in-Refused c = search own_refuses
 
-enum_known_checked : tie.Need-enum-known-checked
-enum_known_checked c = search rules
+pub close_round-closing-requires : goal.close_round-closing-requires
+close_round-closing-requires c = search ready
 
-not_closed_requires : tie.Need-not-closed-requires
-not_closed_requires c κs = search rules
+pub overflow_add-q : goal.overflow_add-q
+overflow_add-q c = record { fits = search end_small }
 
-returns : tie.Need-returns
-returns c = search own_refuses
+pub returns-in-Refused-outcome : goal.returns-in-Refused-outcome
+returns-in-Refused-outcome c = search common_refuses
 
-enum_told : tie.Need-enum-told
-enum_told c = search rules
-
-close_round_requires : tie.Need-close-round-requires
-close_round_requires c κs = search ready
-
-enum_known_outcome : tie.Need-enum-known-outcome
-enum_known_outcome c = search rules
-
-not_closed_requires_2 : tie.Need-not-closed-requires-2
-not_closed_requires_2 c κs = search rules
-
-enum_told_2 : tie.Need-enum-told-2
-enum_told_2 c = search rules
-
-add_closed_now : tie.Need-overflow-add-closed-now
-add_closed_now c = record { fits = search end_small }
-
-closed_now_requires : tie.Need-closed-now-requires
-closed_now_requires c κs = search rules
-
-returns_2 : tie.Need-returns-2
-returns_2 c = search common_refuses
-
-returns_3 : tie.Need-returns-3
-returns_3 c = search closes
-
-pub close_node_spec : {M : Type 1} → statement M
-close_node_spec =
-    tie.close
-    (tie.spec
-    own_check_requires
-    enum_known_checked
-    not_closed_requires
-    returns
-    enum_told
-    close_round_requires
-    enum_known_outcome
-    not_closed_requires_2
-    enum_told_2
-    add_closed_now
-    closed_now_requires
-    returns_2
-    returns_3)
+pub returns-in-Accepted : goal.returns-in-Accepted
+returns-in-Accepted c = search closes

@@ -8,10 +8,7 @@ use Rattle.node.specs.declared.Opening.{Opening}
 use Rattle.node.specs.declared.Opening.TheVariants as opening
 use Rattle.node.specs.Node.{round_of, beyond_lock_at, Lockable}
 use borrow.Author.Rules.{rules}
-use Rattle.node.proofs.beyond_lock.Statement.{statement}
-use Rattle.node.proofs.beyond_lock.Tie as tie
-use Rattle.node.proofs.beyond_lock.Reads as reads
-use Rattle.node.proofs.beyond_lock.Lts as lts
+use Rattle.node.proofs.beyond_lock.Goals as goal
 
 module _ {o : Opening} {s : Sent} (g : o ≡ opening.Open s) where
   sum : Lockable o → s.report.progress + s.report.run < 2 ^ 64
@@ -27,27 +24,14 @@ module _ {o : Opening} {s : Sent} (g : o ≡ opening.Open s) where
     beyond : offset < position → s.report.progress + s.report.run < position → true ≡ beyond_lock_at (round_of o) offset position
     beyond h k = rw (g, lt-ltb offset position h, lt-ltb (s.report.progress + s.report.run) position k)
 
-enum_told : tie.Need-enum-told
-enum_told c = search rules
+pub overflow_add-lock : goal.overflow_add-lock
+overflow_add-lock c = record { fits = search sum }
 
-enum_known_round : tie.Need-enum-known-round
-enum_known_round c = search rules
+pub returns-then-position-offset : goal.returns-then-position-offset
+returns-then-position-offset c = search in_offset
 
-add_lock : tie.Need-overflow-add-lock
-add_lock c = record { fits = search sum }
+pub returns-then-position-lock : goal.returns-then-position-lock
+returns-then-position-lock c = search in_lock
 
-returns : tie.Need-returns
-returns c = search in_offset
-
-returns_2 : tie.Need-returns-2
-returns_2 c = search in_lock
-
-returns_3 : tie.Need-returns-3
-returns_3 c = search rules
-
-returns_4 : tie.Need-returns-4
-returns_4 c = search beyond
-
-pub beyond_lock_spec : {M : Type 1} → statement M
-beyond_lock_spec =
-    tie.close (tie.spec enum_told enum_known_round add_lock returns returns_2 returns_3 returns_4)
+pub returns-else-position-lock : goal.returns-else-position-lock
+returns-else-position-lock c = search beyond

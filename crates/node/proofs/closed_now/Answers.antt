@@ -9,11 +9,7 @@ use Rattle.node.specs.declared.NodeClosing.{NodeClosing}
 use Rattle.node.specs.declared.Opening.TheVariants as opening
 use Rattle.node.specs.Node.{closed_now}
 use borrow.Author.Rules.{rules}
-use Rattle.node.proofs.closed_now.Statement.{statement}
-use Rattle.node.proofs.closed_now.Tie as tie
-use Rattle.node.proofs.closed_now.Reads as reads
-use Rattle.node.proofs.closed_now.Lts as lts
-use Rattle.node.proofs.later.Reads as later-reads
+use Rattle.node.proofs.closed_now.Goals as goal
 
 abbrev closed_at : Node → Closing → ℕ → NodeClosing
 closed_at n c latest = record {
@@ -36,11 +32,5 @@ closed_at n c latest = record {
 closed : (n : Node) (c : Closing) (end : ℕ) {latest : ℕ} → latest ≡ max n.latest end → closed_at n c latest ≡ closed_now n c end
 closed n c end e = ap (closed_at n c) e
 
-later_requires : tie.Need-later-requires
-later_requires c κs = search rules
-
-returns : tie.Need-returns
+pub returns : goal.returns
 returns c = search closed
-
-pub closed_now_spec : {M : Type 1} → statement M
-closed_now_spec = tie.close (tie.spec later_requires returns)

@@ -12,11 +12,7 @@ use Rattle.node.specs.declared.StartAnswer.TheVariants as starts
 use Rattle.node.specs.Node.{Startable, started_now}
 use Rattle.node.proofs.Laws.{common_given}
 use borrow.Author.Rules.{rules}
-use Rattle.node.proofs.started.Statement.{statement}
-use Rattle.node.proofs.started.Tie as tie
-use Rattle.node.proofs.started.Reads as reads
-use Rattle.node.proofs.started.Lts as lts
-use Rattle.common.proofs.task_at.Reads as task-at-reads
+use Rattle.node.proofs.started.Goals as goal
 
 module _ {n : Node} (v : Startable n) where
   k_small : n.progress - n.common.base < n.common.count
@@ -47,14 +43,8 @@ module _ {n : Node} (v : Startable n) where
       ≡ started_now n now
   told now e = ap (λ (i : ℕ). record { answer = starts.Starts i; node = (started_now n now).node }) (e ∙ sym named)
 
-sub_k : tie.Need-overflow-sub-k
-sub_k c = search rules
+pub task_at-task-requires : goal.task_at-task-requires
+task_at-task-requires c = search k_below
 
-task_at_requires : tie.Need-task-at-requires
-task_at_requires c κs = search k_below
-
-returns : tie.Need-returns
+pub returns : goal.returns
 returns c = search told
-
-pub started_spec : {M : Type 1} → statement M
-started_spec = tie.close (tie.spec sub_k task_at_requires returns)
