@@ -1,5 +1,6 @@
 // A finish in a node that the caller lends: it is set in place, over a step by value.
 #![tactic(auto)]
+
 ghost use Rattle.std.specs.Prelude.{◌≡◌};
 ghost use Rattle.rules.specs.Node as rules;
 ghost use Rattle.node.specs.Node.{node_of, Ours, finishing};

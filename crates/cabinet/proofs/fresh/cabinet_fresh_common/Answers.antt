@@ -1,0 +1,12 @@
+-- `cabinet_fresh_common` meets its contract: the length, then all words written anew.
+use borrow.Author.Rules.{rules}
+use Rattle.cabinet.proofs.Beginning.{common_unfit, common_begins}
+use Rattle.cabinet.proofs.fresh.cabinet_fresh_common.Goals as goal
+
+pub returns-then-common-ne326 : goal.returns-then-common-ne326
+returns-then-common-ne326 c =
+    common_unfit c.args.common.now c.if-common-ne326.true c.refuse.ensures
+
+pub returns : goal.returns
+returns c =
+    common_begins c.args.common.now c.if-common-ne326.false c.fresh-first.ensures c.put_common.ensures c.accept.ensures
