@@ -5,8 +5,10 @@ use Rattle.cabinet.proofs.fresh.cabinet_fresh_common.Goals as goal
 
 pub returns-then-common-ne326 : goal.returns-then-common-ne326
 returns-then-common-ne326 c =
-    common_unfit c.args.common.now c.if-common-ne326.true c.refuse.ensures
+    let p = common_unfit c.args.common.now c.if-common-ne326.true c.refuse.ensures in
+    record { value = p.0; common_after = p.1 }
 
 pub returns : goal.returns
 returns c =
-    common_begins c.args.common.now c.if-common-ne326.false c.fresh-first.ensures c.put_common.ensures c.accept.ensures
+    let p = common_begins c.args.common.now c.if-common-ne326.false c.fresh-first.ensures c.put_common.ensures c.accept.ensures in
+    record { value = p.0; common_after = p.1 }

@@ -6,7 +6,8 @@ use Rattle.cabinet.proofs.nodes.cabinet_finish.Goals as goal
 pub returns-then-refusal-gt0 : goal.returns-then-refusal-gt0
 returns-then-refusal-gt0 c =
     let a = c.args in
-    finish_stopped a.table.now a.node.now a.time c.look_at_node-lent.ensures c.if-refusal-gt0.true c.refuse.ensures
+    let p = finish_stopped a.table.now a.node.now a.time c.look_at_node-lent.ensures c.if-refusal-gt0.true c.refuse.ensures in
+    record { value = p.0; node_after = p.1 }
 
 pub finish_node-finished-requires : goal.finish_node-finished-requires
 finish_node-finished-requires c =
@@ -21,9 +22,11 @@ put_node-requires c =
 pub returns-in-Finished : goal.returns-in-Finished
 returns-in-Finished c =
     let a = c.args in
-    finish_done a.table.now a.node.now a.time c.look_at_node-lent.ensures c.if-refusal-gt0.false c.finish_node-finished.ensures c.in-Finished.is c.accept.ensures c.put_node.ensures
+    let p = finish_done a.table.now a.node.now a.time c.look_at_node-lent.ensures c.if-refusal-gt0.false c.finish_node-finished.ensures c.in-Finished.is c.accept.ensures c.put_node.ensures in
+    record { value = p.0; node_after = p.1 }
 
 pub returns-in-Refused : goal.returns-in-Refused
 returns-in-Refused c =
     let a = c.args in
-    finish_refused a.table.now a.node.now a.time c.look_at_node-lent.ensures c.if-refusal-gt0.false c.finish_node-finished.ensures c.in-Refused.is c.refuse-in-Refused.ensures
+    let p = finish_refused a.table.now a.node.now a.time c.look_at_node-lent.ensures c.if-refusal-gt0.false c.finish_node-finished.ensures c.in-Refused.is c.refuse-in-Refused.ensures in
+    record { value = p.0; node_after = p.1 }

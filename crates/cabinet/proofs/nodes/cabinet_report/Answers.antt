@@ -6,12 +6,14 @@ use Rattle.cabinet.proofs.nodes.cabinet_report.Goals as goal
 pub returns-then-refusal-gt0 : goal.returns-then-refusal-gt0
 returns-then-refusal-gt0 c =
     let a = c.args in
-    report_stopped a.table.now a.node.now a.r c.look_at_node-lent.ensures c.if-refusal-gt0.true c.no_report.ensures
+    let p = report_stopped a.table.now a.node.now a.r c.look_at_node-lent.ensures c.if-refusal-gt0.true c.no_report.ensures in
+    record { value = p.0; node_after = p.1 }
 
 pub report_node-reported-requires : goal.report_node-reported-requires
 report_node-reported-requires c =
     let a = c.args in
-    held_asked a.table.now a.node.now c.look_at_node-lent.ensures c.if-refusal-gt0.false
+    let p = held_asked a.table.now a.node.now c.look_at_node-lent.ensures c.if-refusal-gt0.false in
+    record { checked = p.0; given = p.1 }
 
 pub put_node-requires : goal.put_node-requires
 put_node-requires c =
@@ -21,9 +23,11 @@ put_node-requires c =
 pub returns-in-Refused : goal.returns-in-Refused
 returns-in-Refused c =
     let a = c.args in
-    report_refused a.table.now a.node.now a.r c.look_at_node-lent.ensures c.if-refusal-gt0.false c.report_node-reported.ensures c.in-Refused.is c.no_report-in-Refused.ensures
+    let p = report_refused a.table.now a.node.now a.r c.look_at_node-lent.ensures c.if-refusal-gt0.false c.report_node-reported.ensures c.in-Refused.is c.no_report-in-Refused.ensures in
+    record { value = p.0; node_after = p.1 }
 
 pub returns-in-Sends : goal.returns-in-Sends
 returns-in-Sends c =
     let a = c.args in
-    report_sends a.table.now a.node.now a.r c.look_at_node-lent.ensures c.if-refusal-gt0.false c.report_node-reported.ensures c.in-Sends.is c.put_node.ensures
+    let p = report_sends a.table.now a.node.now a.r c.look_at_node-lent.ensures c.if-refusal-gt0.false c.report_node-reported.ensures c.in-Sends.is c.put_node.ensures in
+    record { value = p.0; node_after = p.1 }

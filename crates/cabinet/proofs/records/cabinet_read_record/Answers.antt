@@ -6,12 +6,14 @@ use Rattle.cabinet.proofs.records.cabinet_read_record.Goals as goal
 pub returns-then-room-ne0 : goal.returns-then-room-ne0
 returns-then-room-ne0 c =
     let a = c.args in
-    releases_unfit a.bytes.now a.releases.now a.entries.now c.if-room-ne0.true c.no_record.ensures
+    let p = releases_unfit a.bytes.now a.releases.now a.entries.now c.if-room-ne0.true c.no_record.ensures in
+    record { value = p.0; releases_after = p.1.0; entries_after = p.1.1 }
 
 pub returns-then-places-ne0 : goal.returns-then-places-ne0
 returns-then-places-ne0 c =
     let a = c.args in
-    entries_unfit a.bytes.now a.releases.now a.entries.now c.if-room-ne0.false c.if-places-ne0.true c.no_record-then-places-ne0.ensures
+    let p = entries_unfit a.bytes.now a.releases.now a.entries.now c.if-room-ne0.false c.if-places-ne0.true c.no_record-then-places-ne0.ensures in
+    record { value = p.0; releases_after = p.1.0; entries_after = p.1.1 }
 
 pub put_releases-requires : goal.put_releases-requires
 put_releases-requires c =
@@ -26,9 +28,11 @@ put_entries-requires c =
 pub returns-in-Refused : goal.returns-in-Refused
 returns-in-Refused c =
     let a = c.args in
-    record_not_read a.bytes.now a.releases.now a.entries.now c.if-room-ne0.false c.if-places-ne0.false c.read_within-read.ensures c.in-Refused.is c.no_record-in-Refused.ensures
+    let p = record_not_read a.bytes.now a.releases.now a.entries.now c.if-room-ne0.false c.if-places-ne0.false c.read_within-read.ensures c.in-Refused.is c.no_record-in-Refused.ensures in
+    record { value = p.0; releases_after = p.1.0; entries_after = p.1.1 }
 
 pub returns-in-Read : goal.returns-in-Read
 returns-in-Read c =
     let a = c.args in
-    record_was_read a.bytes.now a.releases.now a.entries.now c.if-room-ne0.false c.if-places-ne0.false c.read_within-read.ensures c.in-Read.is c.put_releases.ensures c.put_entries.ensures
+    let p = record_was_read a.bytes.now a.releases.now a.entries.now c.if-room-ne0.false c.if-places-ne0.false c.read_within-read.ensures c.in-Read.is c.put_releases.ensures c.put_entries.ensures in
+    record { value = p.0; releases_after = p.1.0; entries_after = p.1.1 }

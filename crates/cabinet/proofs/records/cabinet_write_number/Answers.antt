@@ -6,4 +6,5 @@ use Rattle.cabinet.proofs.records.cabinet_write_number.Goals as goal
 pub returns : goal.returns
 returns c =
     let a = c.args in
-    number_wrote a.bytes.now a.number c.wrote.ensures c.write_number-written.ensures.0 c.write_number-written.ensures.1
+    let p = number_wrote a.bytes.now a.number c.wrote.ensures c.write_number-written.ensures.value c.write_number-written.ensures.bytes_after in
+    record { value = p.0; bytes_after = p.1 }
