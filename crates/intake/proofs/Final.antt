@@ -1,6 +1,6 @@
 -- A reading of the bytes that have come so far: every answer but 18 stays the same whatever bytes follow, and 18 is given of few bytes only.
 -- So a program that keeps a window of the input waits for more at 18 and at nothing else, and its window never fills up.
-use mathlib.Core.Path.{◌≡◌, refl, sym, ap, ◌∙◌}
+use mathlib.Core.Path.{◌≡◌, refl}
 use mathlib.Core.Logic.{◌⊎◌, inl, inr, ⊎_elim}
 use mathlib.Core.Bool.{Bool, true, false, not, ◌&&◌}
 use mathlib.Core.Option.{Option, none, some}

@@ -15,7 +15,7 @@ use Rattle.rules.proofs.Answers.{same_done, passed, passed_naming}
 use Rattle.table.specs.Table.{table_of, Checked}
 use Rattle.intake.specs.declared.TableAnswer.TheVariants as answer
 use Rattle.intake.specs.declared.TableRead.{TableRead}
-use Rattle.intake.specs.Table.{no_table, table_read, under, answered, checked_tasks, counted_tasks}
+use Rattle.intake.specs.Table.{table_read, under, answered, checked_tasks}
 use Rattle.intake.proofs.Tasks.{table_back}
 use Rattle.intake.proofs.Parts.{table_parts}
 use Rattle.intake.proofs.Final.{Short, table_window}

@@ -1,6 +1,6 @@
 -- What reading a record answers, part by part.
 use Rattle.std.proofs.Math.Option.{Option, none}
-use Rattle.std.specs.Prelude.{List, [], map, ℕ, ◌-◌, length, replicate}
+use Rattle.std.specs.Prelude.{List, [], map, ℕ, length, replicate}
 use Rattle.laws.specs.Lists.{pad}
 use Rattle.rules.specs.Answer.{Answer, done, refused, refused_by}
 use Rattle.rules.specs.Judge as rules

@@ -1,6 +1,6 @@
 -- What a round record by value stands for, and the one value that stands for a record within the counts.
 use Rattle.std.proofs.Math.Option.{Option, none, some}
-use Rattle.std.specs.Prelude.{List, [], map, ℕ, length, get_or}
+use Rattle.std.specs.Prelude.{List, [], map, length, get_or}
 use Rattle.laws.specs.Lists.{rows, pad}
 use Rattle.rules.specs.Judge as rules
 use Rattle.round.specs.declared.Release.{Release}

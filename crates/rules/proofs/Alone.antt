@@ -13,7 +13,7 @@ use Rattle.rules.specs.Judge.{Round}
 use Rattle.rules.specs.Node.{Open, Node, Started, start, finish, report_of, Reported, report, NodeClosed, node_close}
 use Rattle.rules.specs.Cabinet.{Call, start_at, finish_at, report_at, close_with, Watched, new_watched, saw_start, saw_finish, saw_report, saw_close, asked, Step, run}
 use Rattle.rules.specs.Agreement.{Holds, Healthy}
-use Rattle.rules.proofs.Nodes.{started, finished, reported, MayClose, ClosedBy, node_closes}
+use Rattle.rules.proofs.Nodes.{started, finished, reported, node_closes}
 use Rattle.rules.proofs.Calls.{on_reply_keeps}
 use Rattle.rules.proofs.Runs.{run_keeps}
 

@@ -8,7 +8,7 @@ use Prim.Native.Nat.{ℕ, ◌+◌, ◌≤◌, ◌<◌}
 use lib.ListN.{length, get_or}
 use Rattle.rules.specs.Answer.{done}
 use Rattle.rules.specs.Table.{Table}
-use Rattle.rules.specs.Common.{Job, Common, L, job_at, within_bound}
+use Rattle.rules.specs.Common.{Common, L, job_at, within_bound}
 use Rattle.rules.specs.Judge.{Report, Round}
 use Rattle.rules.specs.Close.{Closed, close, applied}
 use Rattle.rules.specs.Agreement.{common_after, order_after, Good}

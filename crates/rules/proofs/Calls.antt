@@ -14,15 +14,15 @@ use Rattle.laws.proofs.Tests.{lt_or_ge, and_yes, none≢some}
 use Rattle.laws.proofs.Lists.{prefix_snoc, prefix_length}
 use Rattle.rules.specs.Answer.{Answer, done, refused, refused_by}
 use Rattle.rules.specs.Table.{Table}
-use Rattle.rules.specs.Common.{Job, Common, L, job_at, projection, within_bound}
+use Rattle.rules.specs.Common.{Common, L, job_at, projection, within_bound}
 use Rattle.rules.specs.Judge.{Report, Round}
 use Rattle.rules.specs.Close.{Closed, applied}
 use Rattle.rules.specs.Node.{Open, Node, lock, Started, start, finish, next_soon, report_of, Reported, report, NodeClosed, node_close}
 use Rattle.rules.specs.Cabinet.{Call, start_at, finish_at, report_at, close_with, Watched, saw_start, saw_finish, saw_report, saw_close, on_reply, asked}
 use Rattle.rules.specs.Agreement.{common_after, order_after, Good}
-use Rattle.rules.proofs.Nodes.{OnTime, MayStart, started, Permitted, by_offset, by_lock, by_bound, permitted, MayFinish, finished, MayReport, reported, MayClose, ClosedBy, node_closes}
+use Rattle.rules.proofs.Nodes.{started, Permitted, by_offset, by_lock, by_bound, permitted, finished, MayReport, reported, MayClose, node_closes}
 use Rattle.rules.proofs.Ordered.{carried}
-use Rattle.rules.proofs.Basis.{Bounded, offset_after, OrderBasis, Basis}
+use Rattle.rules.proofs.Basis.{Bounded, offset_after, Basis}
 use Rattle.rules.proofs.Rising.{rising_snoc}
 use Rattle.rules.proofs.Invariant.{Answered, Inv}
 

@@ -9,9 +9,9 @@ use lib.ListN.{length, drop}
 use borrow.Author.Tests.{le-ltb, lt-leb}
 use Rattle.laws.specs.Tests.{◌<?◌, maybe}
 use Rattle.rules.specs.All.{all}
-use Rattle.rules.specs.Answer.{Answer, done, refuse◌if◌else◌}
+use Rattle.rules.specs.Answer.{done, refuse◌if◌else◌}
 use Rattle.rules.specs.Common.{Common}
-use Rattle.rules.specs.Close.{Closed, close}
+use Rattle.rules.specs.Close.{close}
 use Rattle.rules.specs.Canal.{canal, silent, same_but_last, nobody, Canal}
 
 -- No release is too early and the list is well formed whatever c holds: 3, 14 and 17 alone are left of the ladder.

@@ -5,10 +5,9 @@ use mathlib.Core.Option.{none}
 use mathlib.Core.List.{List, [], ◌∷◌, ◌++◌}
 use Prim.Native.Nat.{ℕ}
 use Rattle.rules.specs.Answer.{refused}
-use Rattle.rules.specs.Common.{Common}
 use Rattle.rules.specs.Judge.{Round, class}
 use Rattle.rules.specs.Node.{Node, report}
-use Rattle.rules.specs.Cabinet.{start_at, finish_at, report_at, close_with, Watched, asked, Step, stepped, run}
+use Rattle.rules.specs.Cabinet.{start_at, finish_at, report_at, close_with, asked, Step, stepped, run}
 use Rattle.rules.specs.Agreement.{apply_whole, whole_after, order_after}
 use Rattle.rules.specs.Canal.{canal, sends, released, nodes, round_at, round_0}
 use Rattle.rules.specs.All.{all}

@@ -2,7 +2,7 @@
 use mathlib.Core.Path.{◌≡◌, sym, ap, ◌∙◌}
 use mathlib.Core.Bool.{true}
 use mathlib.Core.Logic.{◌⊎◌, inl, inr, ⊎_elim}
-use mathlib.Core.Option.{none, some}
+use mathlib.Core.Option.{some}
 use mathlib.Core.List.Memᴰ
 use mathlib.Core.List.{List, [], ◌∷◌, ◌++◌, append_assoc, append-nil, Memᴰ}
 use Prim.Native.Nat.{ℕ, ◌≤◌, ◌<◌}
@@ -13,7 +13,7 @@ use Rattle.laws.specs.Lists.{Prefix}
 use Rattle.laws.proofs.Tests.{lt_or_ge, none≢some}
 use Rattle.rules.specs.Table.{Table}
 use Rattle.rules.specs.Judge.{Report, Round}
-use Rattle.rules.specs.Node.{Open, Node, left_behind}
+use Rattle.rules.specs.Node.{Open, left_behind}
 use Rattle.rules.specs.Cabinet.{Watched, Step, run}
 use Rattle.rules.specs.Agreement.{common_after, Good, entry_of, Sent, Holds, Healthy, Agrees}
 use Rattle.rules.proofs.Ordered.{Later, others_order}

@@ -8,8 +8,8 @@ use lib.ListN.{length, get_or}
 use Rattle.laws.specs.Tests.{if◌then◌else◌}
 use Rattle.laws.specs.Lists.{Prefix}
 use Rattle.rules.specs.Table.{Table}
-use Rattle.rules.specs.Judge.{Report, Round}
-use Rattle.rules.specs.Node.{Open, Node, lock}
+use Rattle.rules.specs.Judge.{Round}
+use Rattle.rules.specs.Node.{Open, lock}
 use Rattle.rules.specs.Cabinet.{Watched}
 use Rattle.rules.specs.Agreement.{common_after, order_after, Good}
 use Rattle.rules.proofs.Basis.{Bounded}

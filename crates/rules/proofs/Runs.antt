@@ -10,7 +10,7 @@ use Rattle.laws.proofs.Tests.{none≢some}
 use Rattle.laws.proofs.Lists.{prefix_refl, prefix_append}
 use Rattle.rules.specs.Table.{Table}
 use Rattle.rules.specs.Judge.{Round}
-use Rattle.rules.specs.Node.{Node, Started, start, finish, Reported, report, NodeClosed, node_close}
+use Rattle.rules.specs.Node.{start, finish, report, node_close}
 use Rattle.rules.specs.Cabinet.{Call, start_at, finish_at, report_at, close_with, Watched, new_watched, saw_start, saw_finish, saw_report, saw_close, asked, Step, Cabinet, stepped, run}
 use Rattle.rules.specs.Agreement.{whole_after, order_after}
 use Rattle.rules.proofs.Ordered.{Trace, Later, later_refl, later_same, later_close}

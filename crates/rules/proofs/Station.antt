@@ -12,7 +12,7 @@ use Rattle.rules.specs.Node.{Node, Started, start, finish, Reported, report, Nod
 use Rattle.rules.specs.Cabinet.{Call, start_at, finish_at, report_at, close_with, Watched, saw_start, saw_finish, saw_report, saw_close, asked, Step, run}
 use Rattle.rules.specs.Agreement.{common_after}
 use Rattle.rules.proofs.Tables.{fit}
-use Rattle.rules.proofs.Nodes.{started, finished, reported, ClosedBy, node_closes}
+use Rattle.rules.proofs.Nodes.{started, finished, reported, node_closes}
 use Rattle.rules.proofs.Calls.{on_reply_keeps}
 use Rattle.rules.proofs.Runs.{run_keeps, run_inv}
 use Rattle.rules.proofs.Whole.{basis}

@@ -11,9 +11,9 @@ use Rattle.rules.specs.All.{all}
 use Rattle.rules.specs.Answer.{Answer, done, refused, refused_by, ◌>>=◌}
 use Rattle.rules.specs.Table.{Task, Table, check}
 use Rattle.rules.specs.Common.{Job, Common, fresh, breaker}
-use Rattle.rules.specs.Judge.{Report, Release, Round, malformed, class, majority}
+use Rattle.rules.specs.Judge.{Report, Release, malformed, class, majority}
 use Rattle.rules.specs.Insert.{place, insert}
-use Rattle.rules.specs.Close.{Verdict, Closed, close}
+use Rattle.rules.specs.Close.{Closed, close}
 use Rattle.rules.specs.Node.{fresh_node}
 use Rattle.rules.specs.Canal.{canal, sends, released, nodes, round_at, round_10, silent, same_but_last, after_0, next, ◌shows◌, order}
 

@@ -9,8 +9,8 @@ use Rattle.rules.specs.Answer.{Answer, done, refused, refused_by, ◌>>=◌}
 use Rattle.rules.specs.Table.{Table}
 use Rattle.rules.specs.Common.{Common, fresh}
 use Rattle.rules.specs.Judge.{Report, Round}
-use Rattle.rules.specs.Close.{Closed, close}
-use Rattle.rules.specs.Node.{Open, Node, Started, Reported, NodeClosed, fresh_node, start, finish, report, report_of, node_close}
+use Rattle.rules.specs.Close.{close}
+use Rattle.rules.specs.Node.{Open, Node, fresh_node, start, finish, report, report_of, node_close}
 use Rattle.rules.specs.Canal.{canal, sends, released, nodes, round_at, round_0, round_10, round_12, ◌shows◌}
 use Rattle.rules.proofs.Vectors.{has, table, common, common_0}
 

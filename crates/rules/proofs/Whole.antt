@@ -15,12 +15,11 @@ use Rattle.laws.proofs.Lists.{map_take}
 use Rattle.rules.specs.Table.{Table}
 use Rattle.rules.specs.Common.{Job, Common, no_job, fresh, L, job_at}
 use Rattle.rules.specs.Judge.{Report, Round, counts}
-use Rattle.rules.specs.Close.{Closed, judged, applied}
+use Rattle.rules.specs.Close.{Closed, applied}
 use Rattle.rules.specs.Agreement.{Whole, apply_whole, whole_after, common_after, order_after, Good}
 use Rattle.rules.proofs.Tables.{Fit}
 use Rattle.rules.proofs.Bound.{bound_stays, each_bound}
 use Rattle.rules.proofs.Judging.{counted, zero_or_five}
-use Rattle.rules.proofs.Releasing.{Released}
 use Rattle.rules.proofs.Closing.{close_gives, Onward, applied_keeps, applied_reaches, judged_between, applied_between, applied_onward}
 use Rattle.rules.proofs.Basis.{offset_after, Bounded, OrderBasis, Basis}
 

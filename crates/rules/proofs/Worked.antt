@@ -13,7 +13,7 @@ use Rattle.laws.proofs.Lists.{prefix_refl}
 use Rattle.rules.specs.Answer.{done, refused, refused_by}
 use Rattle.rules.specs.Table.{check}
 use Rattle.rules.specs.Judge.{Report, Round}
-use Rattle.rules.specs.Node.{Open, Node, left_behind, start}
+use Rattle.rules.specs.Node.{left_behind, start}
 use Rattle.rules.specs.Cabinet.{Call, start_at, finish_at, report_at, close_with, Watched, asked, Step, Cabinet, stepped, run}
 use Rattle.rules.specs.Agreement.{apply_whole, whole_after, order_after, Holds, Healthy, Agrees}
 use Rattle.rules.specs.Canal.{canal, sends, released, nodes, round_at, round_0}

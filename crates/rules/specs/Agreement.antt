@@ -8,7 +8,7 @@ use Rattle.rules.specs.Table.{Table, check}
 use Rattle.rules.specs.Common.{Job, Common, fresh}
 use Rattle.rules.specs.Judge.{Report, Round, class}
 use Rattle.rules.specs.Close.{applied}
-use Rattle.rules.specs.Node.{Open, Node, left_behind}
+use Rattle.rules.specs.Node.{left_behind}
 use Rattle.rules.specs.Cabinet.{Watched, Step, Cabinet, run}
 
 -- A common record, and the jobs that it has dropped: those at positions 1 to B.

@@ -3,11 +3,11 @@ use Rattle.std.specs.Prelude.{◌≡◌, false, List, [], ◌∷◌, map, ℕ, �
 use Rattle.std.proofs.Math.Option.{Option, none, some}
 use Rattle.laws.specs.Lists.{pad}
 use Rattle.rules.specs.Answer.{Answer, done, refused, refused_by, ◌>>=◌}
-use Rattle.rules.specs.Table.{Task, Table, check}
-use Rattle.rules.specs.Common.{Job, Common, fresh, projection}
+use Rattle.rules.specs.Table.{Table, check}
+use Rattle.rules.specs.Common.{Common, fresh, projection}
 use Rattle.rules.specs.Judge.{Report, Release, Round}
 use Rattle.rules.specs.Close.{Verdict, Closed, close}
-use Rattle.rules.specs.Node.{Node, Started, Reported, NodeClosed, fresh_node, start, finish, report, node_close}
+use Rattle.rules.specs.Node.{fresh_node, start, finish, report, node_close}
 use Rattle.rules.specs.Numbers.{number}
 use Rattle.rules.specs.Written.{bytes_of}
 use Rattle.rules.specs.Session.{output, ascii}

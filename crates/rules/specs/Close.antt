@@ -1,6 +1,6 @@
 -- A round record applied to a common record. "A station that only watches applies records to a common record without a node."
-use Rattle.std.specs.Prelude.{Bool, true, false, not, ◌||◌, List, [], ◌∷◌, map, ℕ, ◌+◌, ◌-◌, ◌^◌, length, drop, get_or}
-use Rattle.std.proofs.Math.Option.{Option, some}
+use Rattle.std.specs.Prelude.{Bool, false, not, ◌||◌, List, [], ◌∷◌, map, ℕ, ◌+◌, ◌-◌, ◌^◌, length, drop, get_or}
+use Rattle.std.proofs.Math.Option.{some}
 use Rattle.laws.specs.Tests.{◌<?◌, ◌≤?◌, ◌=?◌, any_of, maybe}
 use Rattle.laws.specs.Lists.{pad}
 use Rattle.rules.specs.Answer.{Answer, done, refuse◌if◌else◌}

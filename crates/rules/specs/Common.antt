@@ -1,10 +1,10 @@
 -- The common record.
 use Rattle.std.specs.Prelude.{Bool, not, ◌&&◌, List, [], map, ℕ, ◌+◌, ◌-◌, max, length, take, get_or, replicate}
-use Rattle.std.proofs.Math.Option.{Option, none, some}
+use Rattle.std.proofs.Math.Option.{Option, none}
 use Rattle.laws.specs.Tests.{◌<?◌, found}
 use Rattle.laws.specs.Search.{lowest}
 use Rattle.laws.specs.Sums.{total}
-use Rattle.rules.specs.Table.{Task, Table, task}
+use Rattle.rules.specs.Table.{Table, task}
 
 pub record Job : Type 0 where
   pub task_of : ℕ

@@ -1,8 +1,8 @@
 -- "Then each release goes in, in list order."
 use Rattle.std.specs.Prelude.{not, ℕ, ◌+◌, ◌-◌, take, drop, set}
-use mathlib.Core.List.{List, [], ◌∷◌, ◌++◌, foldl}
+use mathlib.Core.List.{List, ◌∷◌, ◌++◌, foldl}
 use Rattle.laws.specs.Search.{up_to_last}
-use Rattle.rules.specs.Table.{Task, Table, task}
+use Rattle.rules.specs.Table.{Table, task}
 use Rattle.rules.specs.Common.{Job, Common, higher}
 use Rattle.rules.specs.Judge.{Release}
 

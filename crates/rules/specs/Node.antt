@@ -4,7 +4,7 @@ use Rattle.std.proofs.Math.Option.{Option, none, some}
 use Rattle.laws.specs.Tests.{◌<?◌, ◌≤?◌, ◌=?◌, if◌then◌else◌, found, maybe}
 use Rattle.rules.specs.Answer.{Answer, done, ◌>>=◌, refuse◌if◌else◌, refuse◌naming◌else◌}
 use Rattle.rules.specs.Table.{Table}
-use Rattle.rules.specs.Common.{Job, Common, fresh, L, job_at, projection, breaker, within_bound}
+use Rattle.rules.specs.Common.{Common, fresh, L, job_at, projection, breaker, within_bound}
 use Rattle.rules.specs.Judge.{Report, Round}
 use Rattle.rules.specs.Close.{too_late, Verdict, Closed, close}
 

@@ -1,15 +1,13 @@
 -- The session program: from the bytes of the input to the bytes that it prints.
-use Rattle.std.specs.Prelude.{Bool, true, false, not, ◌&&◌, ◌||◌, ℕ, zero, suc, ◌+◌, ◌-◌, ◌/◌, ◌%◌, length, take}
-use Rattle.std.proofs.Math.Option.{Option, none, some}
+use Rattle.std.specs.Prelude.{ℕ, zero, suc, ◌+◌, ◌/◌, ◌%◌, length, take}
 use mathlib.Core.List.{List, [], ◌∷◌, ◌++◌, map, foldr}
-use Prim.Native.Char.{Char, code}
+use Prim.Native.Char.{code}
 use Prim.Native.String.{String}
 use Rattle.laws.specs.Tests.{◌<?◌, ◌=?◌, if◌then◌else◌}
 use Rattle.rules.specs.Answer.{Answer, done, refused, refused_by, refuse◌if◌else◌}
 use Rattle.rules.specs.Table.{Task, Table, out_of_range, check}
 use Rattle.rules.specs.Common.{Job, Common, fresh, L}
-use Rattle.rules.specs.Judge.{Round}
-use Rattle.rules.specs.Close.{Verdict, Closed, close}
+use Rattle.rules.specs.Close.{close}
 use Rattle.rules.specs.Numbers.{Read, Reads, ◌>>=◌, give, number}
 use Rattle.rules.specs.Written.{times, read_record}
 

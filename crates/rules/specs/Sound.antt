@@ -1,11 +1,10 @@
 -- What always holds of the states that the rules give back: the ranges that code may rely on, and no more. "Always B ≤ O ≤ L"; "at most 256 are kept".
 use Rattle.std.specs.Prelude.{◌≡◌, ℕ, ◌+◌, ◌^◌, ◌≤◌, ◌<◌, length, get_or}
-use Rattle.std.proofs.Math.Option.{Option, some}
+use Rattle.std.proofs.Math.Option.{some}
 use Rattle.laws.specs.Tests.{if◌then◌else◌}
 use Rattle.laws.specs.Sums.{total}
 use Rattle.rules.specs.Table.{Table}
-use Rattle.rules.specs.Common.{Job, Common, no_job, L}
-use Rattle.rules.specs.Judge.{Report}
+use Rattle.rules.specs.Common.{Common, no_job, L}
 use Rattle.rules.specs.Node.{Open, Node}
 
 -- "L needs no refusal": every release lifts its task's E by 1 at least, so L is at most the sum of E; and E, like W, lies less than 2^33 past a

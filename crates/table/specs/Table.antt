@@ -1,7 +1,7 @@
 -- What a table by value stands for, and what a checked one is.
 use Rattle.std.specs.Prelude.{◌≡◌, ℕ, get_or}
 use Rattle.laws.specs.Lists.{rows}
-use Rattle.rules.specs.Answer.{Answer, done}
+use Rattle.rules.specs.Answer.{done}
 use Rattle.rules.specs.Table as rules
 use Rattle.table.specs.declared.Table.{Table}
 

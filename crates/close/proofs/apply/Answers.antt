@@ -1,4 +1,3 @@
-use borrow.Author.Rules.{rules}
 use Rattle.close.proofs.Applied.{apply_packed, apply_room, apply_done}
 use Rattle.close.proofs.apply.Goals as goal
 

@@ -1,5 +1,4 @@
 -- `close_round` meets its contract: what is tried, then judged, then concluded is the rules' close.
-use borrow.Author.Rules.{rules}
 use Rattle.close.proofs.Closed.{stopped_early, passed_ready, judged_so, concluded}
 use Rattle.close.proofs.close_round.Goals as goal
 

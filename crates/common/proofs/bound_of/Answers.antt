@@ -1,6 +1,5 @@
 -- The job stands at the place before the position's count; the rest is the test over the arrays.
 use Rattle.common.proofs.Positions.{may_sum_there, may_test, bound_is}
-use borrow.Author.Rules.{rules}
 use Rattle.common.proofs.bound_of.Goals as goal
 
 pub projected-end-requires : goal.projected-end-requires

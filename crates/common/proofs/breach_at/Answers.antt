@@ -1,12 +1,10 @@
 -- The loop of `breach_at`: no task of higher priority below i breaks the bound.
 use mathlib.Core.Path.{◌≡◌}
 use mathlib.Core.List.{List}
-use mathlib.Core.Option.{none}
-use Prim.Native.Nat.{ℕ, ◌+◌, ◌-◌, ◌^◌, ◌≤◌, ◌<◌, min}
+use Prim.Native.Nat.{ℕ, ◌+◌, ◌^◌, ◌≤◌, ◌<◌, min}
 use native.Mathlib.Omega.{arith}
 use borrow.Author.Rules.{rules}
 use lib.ListN.{get_or}
-use Rattle.laws.specs.Search.{lowest}
 use Rattle.laws.proofs.Search.{lowest_none, lowest_more, lowest_found}
 use Rattle.common.specs.declared.Breach.TheVariants.{Met, By}
 use Rattle.common.specs.Raw.{earliest_of, breaker_at, breach_of, Boundable}

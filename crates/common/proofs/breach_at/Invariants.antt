@@ -2,15 +2,10 @@
 use mathlib.Core.Path.{◌≡◌}
 use mathlib.Core.List.{List}
 use mathlib.Core.Option.{none}
-use Prim.Native.Nat.{ℕ, ◌+◌, ◌-◌, ◌^◌, ◌≤◌, ◌<◌, min}
-use native.Mathlib.Omega.{arith}
-use borrow.Author.Rules.{rules}
-use lib.ListN.{get_or}
+use Prim.Native.Nat.{ℕ, ◌-◌, ◌≤◌, min}
 use Rattle.laws.specs.Search.{lowest}
-use Rattle.laws.proofs.Search.{lowest_none, lowest_more, lowest_found}
-use Rattle.common.specs.declared.Breach.TheVariants.{Met, By}
-use Rattle.common.specs.Raw.{earliest_of, breaker_at, breach_of, Boundable}
-use Rattle.common.proofs.Arrays.{late_for, late_yes, late_no, breaker_within}
+use Rattle.common.specs.Raw.{Boundable}
+use Rattle.common.proofs.Arrays.{late_for}
 use Rattle.common.proofs.breach_at.Given as goal
 
 pub record Inv (earliest slack : List ℕ) (count task end t higher i : ℕ) : Type 0 where

@@ -1,6 +1,5 @@
 -- The larger of two numbers.
 use native.Mathlib.Omega.{arith}
-use borrow.Author.Rules.{rules}
 use Rattle.common.specs.Raw.{earliest_of}
 use Rattle.common.proofs.earliest_at.Goals as goal
 

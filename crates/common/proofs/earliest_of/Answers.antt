@@ -1,7 +1,6 @@
 -- The array is the record's E.
 use Rattle.rules.specs.Common.{earliest}
 use Rattle.common.specs.Raw.{earliest_of}
-use borrow.Author.Rules.{rules}
 use Rattle.common.proofs.earliest_of.Goals as goal
 
 pub returns : goal.returns

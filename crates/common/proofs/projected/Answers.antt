@@ -1,7 +1,6 @@
 -- The loop of `projected`: so far the sum is the definition's.
-use Prim.Native.Nat.{◌-◌}
 use borrow.Author.Rules.{rules}
-use Rattle.common.proofs.Summing.{Summed, summed_start, summed_end, summed_known, summed_fits, summed_next}
+use Rattle.common.proofs.Summing.{summed_start, summed_end, summed_known, summed_fits, summed_next}
 use Rattle.common.proofs.projected.Goals as goal
 
 pub loop-k-init : goal.loop-k-init

@@ -1,6 +1,5 @@
 -- The sum over the arrays is the projection of the position.
 use Rattle.common.proofs.Positions.{may_sum, sum_is}
-use borrow.Author.Rules.{rules}
 use Rattle.common.proofs.projection_of.Goals as goal
 
 pub projected-requires : goal.projected-requires

@@ -1,15 +1,14 @@
 -- So many tasks, read into the arrays one by one.
 use mathlib.Core.Path.{◌≡◌, refl, sym, ◌∙◌}
 use mathlib.Core.List.{List, []}
-use Prim.Native.Nat.{ℕ, ◌+◌, ◌-◌, ◌≤◌, ◌<◌}
+use Prim.Native.Nat.{ℕ, ◌+◌, ◌≤◌, ◌<◌}
 use native.Mathlib.Omega.{arith}
-use borrow.Author.Rules.{rules}
 use lib.ListN.{length, drop, set}
 use Rattle.rules.specs.Written.{times}
 use Rattle.rules.specs.Session.{read_task}
 use Rattle.table.specs.declared.Table.{Table}
 use Rattle.number.proofs.Told.{told_value, told_stop}
-use Rattle.number.proofs.Listing.{Listing, listing_start, listing_done, listing_stop, listing_more}
+use Rattle.number.proofs.Listing.{listing_start, listing_done, listing_stop, listing_more}
 use Rattle.intake.specs.declared.Task.{Task}
 use Rattle.intake.specs.declared.TaskRead.{TaskRead}
 use Rattle.intake.specs.declared.TaskRead.TheVariants as task

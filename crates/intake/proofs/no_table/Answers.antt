@@ -5,7 +5,6 @@ use Rattle.table.specs.declared.Table.{Table}
 use Rattle.intake.specs.declared.TableAnswer.TheVariants as answer
 use Rattle.intake.specs.declared.TableRead.{TableRead}
 use Rattle.intake.specs.Table.{blank_table, no_table}
-use borrow.Author.Rules.{rules}
 use Rattle.intake.proofs.no_table.Goals as goal
 
 is_blank : (n : ℕ) {t : Table} → t ≡ blank_table 0 0 0 → ◌≡◌ {A = TableRead} (record { answer = answer.Refused n; used = 0; table = t }) (no_table n)

@@ -13,7 +13,6 @@ use Rattle.number.specs.Numbers.{number_read}
 use Rattle.intake.specs.declared.TableRead.{TableRead}
 use Rattle.intake.specs.Table.{no_table, table_read, checked_tasks, counted_tasks}
 use Rattle.number.proofs.Two.{one_bad, one_done}
-use borrow.Author.Rules.{rules}
 use borrow.Author.Tests.{ltb-false}
 use Rattle.intake.proofs.read_counted.Goals as goal
 

@@ -12,7 +12,6 @@ use Rattle.number.proofs.Told.{told_done}
 use Rattle.intake.specs.declared.TaskRead.TheVariants as task
 use Rattle.intake.specs.Table.{task_as, task_read, last_two}
 use Rattle.number.proofs.Two.{one_done, first_bad, second_bad, both}
-use borrow.Author.Rules.{rules}
 use Rattle.intake.proofs.read_last_two.Goals as goal
 
 abbrev task_of : ℕ → ℕ → ℕ → ℕ → Reads rules.Task

@@ -12,7 +12,6 @@ use Rattle.intake.specs.declared.TableRead.{TableRead}
 use Rattle.intake.specs.Table.{no_table, table_read, counted_tasks}
 use Rattle.number.proofs.Two.{first_bad, second_bad, both}
 use Rattle.intake.proofs.Parts.{table_parts}
-use borrow.Author.Rules.{rules}
 use Rattle.intake.proofs.read_table.Goals as goal
 
 module _ (s : List ℕ) {a : NumberRead} (p : a ≡ number_read s (number s)) where

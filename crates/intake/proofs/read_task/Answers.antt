@@ -12,7 +12,6 @@ use Rattle.intake.specs.declared.TaskRead.{TaskRead}
 use Rattle.intake.specs.declared.TaskRead.TheVariants as task
 use Rattle.intake.specs.Table.{task_read, last_two}
 use Rattle.number.proofs.Two.{first_bad, second_bad, both}
-use borrow.Author.Rules.{rules}
 use Rattle.intake.proofs.read_task.Goals as goal
 
 module _ (s : List ℕ) (from : ℕ) {a : NumberRead} (p : a ≡ number_read s (number (drop from s))) where

@@ -1,5 +1,5 @@
 -- The tasks and their check, a lemma for each way out: by what the listing answered, and then by what the check did.
-use mathlib.Core.Path.{◌≡◌, refl, sym, ap, subst, ◌∙◌}
+use mathlib.Core.Path.{◌≡◌, sym, ap, subst, ◌∙◌}
 use mathlib.Core.List.{List}
 use Prim.Native.Nat.{ℕ}
 use native.Mathlib.Omega.{arith}
@@ -15,9 +15,8 @@ use Rattle.table.specs.Table.{table_of}
 use Rattle.table.specs.Check.{answer_of}
 use Rattle.intake.specs.declared.TableAnswer.TheVariants as answer
 use Rattle.intake.specs.declared.TableRead.{TableRead}
-use Rattle.intake.specs.Table.{some_table, no_table, table_read, under, tasks_read, answered, checked_tasks}
+use Rattle.intake.specs.Table.{no_table, table_read, under, tasks_read, answered, checked_tasks}
 use Rattle.intake.proofs.Tasks.{table_back}
-use borrow.Author.Rules.{rules}
 use Rattle.intake.proofs.read_tasks.Goals as goal
 
 module _ (s : List ℕ) (m timeout : ℕ) where

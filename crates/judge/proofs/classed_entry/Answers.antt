@@ -1,5 +1,4 @@
 -- `judge::classed_entry` meets its contract. Assumes nothing.
-use borrow.Author.Rules.{rules}
 use Rattle.judge.proofs.classed_entry.Goals as goal
 
 pub returns : goal.returns

@@ -1,7 +1,6 @@
 -- `judge::judge_entry` meets its contract. Assumes nothing.
 use mathlib.Core.Path.{◌∙◌}
 use Rattle.judge.proofs.Lent.{class_same, judgeable}
-use borrow.Author.Rules.{rules}
 use Rattle.judge.proofs.judge_entry.Goals as goal
 
 pub class_of-requires : goal.class_of-requires

@@ -1,13 +1,9 @@
 -- The classes put in one by one, a digit each.
-use mathlib.Core.Path.{◌≡◌, ◌∙◌}
+use mathlib.Core.Path.{◌≡◌}
 use mathlib.Core.List.{List, map}
-use Prim.Native.Nat.{ℕ, ◌+◌, ◌-◌, ◌≤◌, ◌<◌}
-use native.Mathlib.Omega.{arith}
-use borrow.Author.Rules.{rules}
-use lib.ListN.{length, take, set, get_or, length-map, get_or-map}
-use lib.Seq.{get_or-take, length-take-le}
-use Rattle.lines.specs.Text.{Put, PutWithin}
-use Rattle.lines.proofs.Putting.{Copying, copy_start, copy_here, copy_step, copy_end}
+use Prim.Native.Nat.{ℕ, ◌+◌, ◌-◌}
+use lib.ListN.{length, take}
+use Rattle.lines.proofs.Putting.{Copying}
 use Rattle.lines.proofs.put_classes.Given as goal
 
 unfoldable pub shown : ℕ → List ℕ → List ℕ

@@ -1,5 +1,4 @@
 -- The position and the task, a field each.
-use borrow.Author.Rules.{rules}
 use Rattle.lines.proofs.Jobs.{job_put}
 use Rattle.rules.specs.Session.{ascii}
 use Rattle.lines.proofs.put_job.Goals as goal

@@ -1,15 +1,14 @@
 -- The jobs put in one by one: those from k on are left, and each has taken at most 25 bytes.
 use mathlib.Core.Path.{◌≡◌, ◌∙◌}
 use mathlib.Core.List.{List, []}
-use Prim.Native.Nat.{ℕ, ◌+◌, ◌-◌, ◌*◌, ◌≤◌, ◌<◌}
+use Prim.Native.Nat.{ℕ, ◌+◌, ◌*◌, ◌≤◌, ◌<◌}
 use native.Mathlib.Omega.{arith}
-use borrow.Author.Rules.{rules}
 use lib.ListN.{length, take, drop, get_or, drop_of_length-le}
 use lib.Seq.{get_or-take, length-take-le}
 use Rattle.rules.specs.Session.{jobs_from}
 use Rattle.lines.specs.Text.{PutWithin}
 use Rattle.lines.specs.Lines.{job_text, jobs_of}
-use Rattle.lines.proofs.Putting.{Left, left_all, left_less, left_none}
+use Rattle.lines.proofs.Putting.{left_all, left_less, left_none}
 use Rattle.lines.proofs.Jobs.{jobs_next}
 use Rattle.lines.proofs.put_jobs.Invariants.{Inv}
 use Rattle.lines.proofs.put_jobs.Goals as goal

@@ -1,16 +1,11 @@
 -- The jobs put in one by one: those from k on are left, and each has taken at most 25 bytes.
-use mathlib.Core.Path.{◌≡◌, ◌∙◌}
-use mathlib.Core.List.{List, []}
-use Prim.Native.Nat.{ℕ, ◌+◌, ◌-◌, ◌*◌, ◌≤◌, ◌<◌}
-use native.Mathlib.Omega.{arith}
-use borrow.Author.Rules.{rules}
-use lib.ListN.{length, take, drop, get_or, drop_of_length-le}
-use lib.Seq.{get_or-take, length-take-le}
+use mathlib.Core.Path.{◌≡◌}
+use mathlib.Core.List.{List}
+use Prim.Native.Nat.{ℕ, ◌+◌, ◌-◌, ◌*◌, ◌≤◌}
+use lib.ListN.{length, take, drop}
 use Rattle.rules.specs.Session.{jobs_from}
-use Rattle.lines.specs.Text.{PutWithin}
-use Rattle.lines.specs.Lines.{job_text, jobs_of}
-use Rattle.lines.proofs.Putting.{Left, left_all, left_less, left_none}
-use Rattle.lines.proofs.Jobs.{jobs_next}
+use Rattle.lines.specs.Lines.{jobs_of}
+use Rattle.lines.proofs.Putting.{Left}
 use Rattle.lines.proofs.put_jobs.Given as goal
 
 pub record Inv (buf₀ : List ℕ) (from base : ℕ) (tasks : List ℕ) (count : ℕ) (buf : List ℕ) (at position k : ℕ) : Type 0 where

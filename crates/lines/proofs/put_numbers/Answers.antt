@@ -2,7 +2,6 @@
 use mathlib.Core.List.{List, ◌++◌}
 use Prim.Native.Nat.{ℕ}
 use native.Mathlib.Omega.{arith}
-use borrow.Author.Rules.{rules}
 use Rattle.rules.specs.Session.{ascii, decimal}
 use Rattle.lines.specs.Text.{PutWithin}
 use Rattle.lines.specs.Lines.{numbers_text}

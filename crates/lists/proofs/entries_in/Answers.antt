@@ -1,16 +1,15 @@
 -- The first entries, put into their places one by one.
 use mathlib.Core.Path.{◌≡◌, ap}
 use mathlib.Core.List.{List, []}
-use Prim.Native.Nat.{ℕ, ◌+◌, ◌-◌, ◌*◌, ◌/◌, ◌≤◌, ◌<◌, min}
+use Prim.Native.Nat.{ℕ, ◌+◌, ◌*◌, ◌/◌, ◌≤◌, ◌<◌, min}
 use native.Mathlib.Omega.{arith}
-use borrow.Author.Rules.{rules}
 use lib.ListN.{length, set}
 use Rattle.laws.specs.Lists.{rows, pad}
 use Rattle.round.specs.declared.Entry.{Entry}
 use Rattle.round.specs.declared.Place.{Place}
 use Rattle.round.specs.Round.{entry_as, no_entry}
 use Rattle.lists.specs.Lists.{entry_at, place_as, entry_places}
-use Rattle.lists.proofs.Places.{Placed, placed_none, placed_next, placed_all}
+use Rattle.lists.proofs.Places.{placed_none, placed_next, placed_all}
 use Rattle.lists.proofs.entries_in.Invariants.{Inv}
 use Rattle.lists.proofs.entries_in.Goals as goal
 

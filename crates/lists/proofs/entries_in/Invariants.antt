@@ -1,16 +1,11 @@
 -- The first entries, put into their places one by one.
-use mathlib.Core.Path.{◌≡◌, ap}
-use mathlib.Core.List.{List, []}
-use Prim.Native.Nat.{ℕ, ◌+◌, ◌-◌, ◌*◌, ◌/◌, ◌≤◌, ◌<◌, min}
-use native.Mathlib.Omega.{arith}
-use borrow.Author.Rules.{rules}
-use lib.ListN.{length, set}
-use Rattle.laws.specs.Lists.{rows, pad}
-use Rattle.round.specs.declared.Entry.{Entry}
+use mathlib.Core.List.{List}
+use Prim.Native.Nat.{ℕ, ◌-◌, ◌/◌}
+use lib.ListN.{length}
 use Rattle.round.specs.declared.Place.{Place}
-use Rattle.round.specs.Round.{entry_as, no_entry}
-use Rattle.lists.specs.Lists.{entry_at, place_as, entry_places}
-use Rattle.lists.proofs.Places.{Placed, placed_none, placed_next, placed_all}
+use Rattle.round.specs.Round.{no_entry}
+use Rattle.lists.specs.Lists.{entry_at, place_as}
+use Rattle.lists.proofs.Places.{Placed}
 use Rattle.lists.proofs.entries_in.Given as goal
 
 pub record Inv (ws : List ℕ) (count : ℕ) (list : List Place) (i : ℕ) : Type 0 where

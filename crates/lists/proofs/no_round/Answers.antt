@@ -1,5 +1,4 @@
 -- Beside a refusal stands the blank record.
-use borrow.Author.Rules.{rules}
 use Rattle.lists.proofs.no_round.Goals as goal
 
 pub returns : goal.returns

@@ -1,18 +1,13 @@
 -- A record's entries, stored one by one.
-use mathlib.Core.Path.{◌≡◌}
 use mathlib.Core.Option.{Option}
 use mathlib.Core.List.{List}
-use Prim.Native.Nat.{ℕ, ◌+◌, ◌-◌, ◌*◌, ◌≤◌, ◌<◌}
-use borrow.Author.Rules.{rules}
-use lib.ListN.{length, get_or}
-use lib.Seq.{sets}
-use Rattle.laws.specs.Lists.{over}
-use Rattle.laws.proofs.Lists.{length_of_map}
+use Prim.Native.Nat.{ℕ, ◌-◌, ◌≤◌}
+use lib.ListN.{get_or}
 use Rattle.rules.specs.Judge as rules
 use Rattle.round.specs.declared.Round.{Round}
-use Rattle.round.specs.Round.{entry_of, no_entry, entries_of}
-use Rattle.lists.specs.Lists.{words_of_entry, entry_words}
-use Rattle.lists.proofs.Putting.{Put, put_none, put_room, put_next, put_all, four_each}
+use Rattle.round.specs.Round.{entry_of, no_entry}
+use Rattle.lists.specs.Lists.{words_of_entry}
+use Rattle.lists.proofs.Putting.{Put}
 use Rattle.lists.proofs.put_entries.Given as goal
 
 abbrev pub entry : Round → ℕ → Option rules.Report

@@ -2,7 +2,6 @@
 use mathlib.Core.Path.{◌≡◌, sym, ap, ◌∙◌}
 use mathlib.Core.List.{List, [], ◌∷◌}
 use Prim.Native.Nat.{ℕ}
-use borrow.Author.Rules.{rules}
 use lib.Seq.{sets}
 use Rattle.round.specs.declared.Report.{Report}
 use Rattle.round.specs.declared.Entry.{Entry}

@@ -1,18 +1,17 @@
 -- A record's releases, stored one by one.
 use mathlib.Core.Path.{◌≡◌}
 use mathlib.Core.List.{List}
-use Prim.Native.Nat.{ℕ, ◌+◌, ◌-◌, ◌*◌, ◌≤◌, ◌<◌}
+use Prim.Native.Nat.{ℕ, ◌+◌, ◌*◌, ◌≤◌, ◌<◌}
 use native.Mathlib.Omega.{arith}
 use native.Mathlib.Numerals.{add-one}
 use borrow.Author.Rules.{rules}
 use lib.ListN.{length, get_or, set, length-set}
 use Rattle.laws.specs.Lists.{over}
 use Rattle.laws.proofs.Lists.{length_of_map}
-use Rattle.rules.specs.Judge as rules
 use Rattle.round.specs.declared.Round.{Round}
-use Rattle.round.specs.Round.{release_of, no_release, releases_of}
+use Rattle.round.specs.Round.{no_release, releases_of}
 use Rattle.lists.specs.Lists.{words_of_release, release_words}
-use Rattle.lists.proofs.Putting.{Put, put_none, put_room, put_next, put_all, two_each}
+use Rattle.lists.proofs.Putting.{put_none, put_room, put_next, put_all, two_each}
 use Rattle.lists.proofs.put_releases.Invariants.{release, Inv}
 use Rattle.lists.proofs.put_releases.Goals as goal
 

@@ -1,15 +1,14 @@
 -- The first releases, put into their places one by one.
 use mathlib.Core.Path.{◌≡◌, refl}
 use mathlib.Core.List.{List, []}
-use Prim.Native.Nat.{ℕ, ◌+◌, ◌-◌, ◌*◌, ◌/◌, ◌≤◌, ◌<◌, min}
+use Prim.Native.Nat.{ℕ, ◌+◌, ◌*◌, ◌/◌, ◌≤◌, ◌<◌, min}
 use native.Mathlib.Omega.{arith}
-use borrow.Author.Rules.{rules}
 use lib.ListN.{length, get_or, set}
 use Rattle.laws.specs.Lists.{rows, pad}
 use Rattle.round.specs.declared.Release.{Release}
 use Rattle.round.specs.Round.{release_as, no_release}
 use Rattle.lists.specs.Lists.{release_at, release_places}
-use Rattle.lists.proofs.Places.{Placed, placed_none, placed_next, placed_all}
+use Rattle.lists.proofs.Places.{placed_none, placed_next, placed_all}
 use Rattle.lists.proofs.releases_in.Invariants.{Inv}
 use Rattle.lists.proofs.releases_in.Goals as goal
 

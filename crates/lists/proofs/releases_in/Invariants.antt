@@ -1,15 +1,11 @@
 -- The first releases, put into their places one by one.
-use mathlib.Core.Path.{◌≡◌, refl}
-use mathlib.Core.List.{List, []}
-use Prim.Native.Nat.{ℕ, ◌+◌, ◌-◌, ◌*◌, ◌/◌, ◌≤◌, ◌<◌, min}
-use native.Mathlib.Omega.{arith}
-use borrow.Author.Rules.{rules}
-use lib.ListN.{length, get_or, set}
-use Rattle.laws.specs.Lists.{rows, pad}
+use mathlib.Core.List.{List}
+use Prim.Native.Nat.{ℕ, ◌-◌, ◌/◌}
+use lib.ListN.{length}
 use Rattle.round.specs.declared.Release.{Release}
 use Rattle.round.specs.Round.{release_as, no_release}
-use Rattle.lists.specs.Lists.{release_at, release_places}
-use Rattle.lists.proofs.Places.{Placed, placed_none, placed_next, placed_all}
+use Rattle.lists.specs.Lists.{release_at}
+use Rattle.lists.proofs.Places.{Placed}
 use Rattle.lists.proofs.releases_in.Given as goal
 
 pub record Inv (ws : List ℕ) (count : ℕ) (list : List Release) (i : ℕ) : Type 0 where

@@ -1,16 +1,11 @@
 -- No mark above 1 among the entries so far.
-use mathlib.Core.Path.{◌≡◌, refl}
-use mathlib.Core.Bool.{true, false}
-use mathlib.Core.Option.{none, some}
+use mathlib.Core.Path.{◌≡◌}
+use mathlib.Core.Option.{none}
 use mathlib.Core.List.{List}
-use Prim.Native.Nat.{ℕ, ◌+◌, ◌-◌, ◌*◌, ◌/◌, ◌≤◌, ◌<◌}
-use native.Mathlib.Omega.{arith}
-use borrow.Author.Rules.{rules}
-use borrow.Author.Tests.{lt-ltb, le-ltb}
-use lib.ListN.{length, get_or}
+use Prim.Native.Nat.{ℕ, ◌-◌, ◌/◌, ◌≤◌}
+use lib.ListN.{length}
 use Rattle.laws.specs.Search.{lowest}
-use Rattle.laws.proofs.Search.{lowest_none, lowest_more, lowest_found}
-use Rattle.lists.specs.Lists.{above_one, wrong_mark}
+use Rattle.lists.specs.Lists.{above_one}
 use Rattle.lists.proofs.wrong_mark.Given as goal
 
 pub record Inv (ws : List ℕ) (count i : ℕ) : Type 0 where

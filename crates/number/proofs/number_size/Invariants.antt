@@ -1,12 +1,8 @@
 -- The size's loop: the groups passed and those of `rest` are all groups.
-use mathlib.Core.Path.{◌≡◌, ap}
-use Prim.Native.Nat.{ℕ, suc, ◌+◌, ◌-◌, ◌/◌, ◌^◌, ◌≤◌, ◌<◌}
-use native.Mathlib.Omega.{arith}
-use borrow.Author.Rules.{rules}
+use mathlib.Core.Path.{◌≡◌}
+use Prim.Native.Nat.{ℕ, suc, ◌+◌, ◌^◌, ◌≤◌, ◌<◌}
 use lib.ListN.{length}
-use Rattle.laws.proofs.Digits.{more_left, next_fits}
 use Rattle.rules.specs.Numbers.{groups, number_bytes}
-use Rattle.rules.proofs.Sizes.{one_group, more_groups}
 use Rattle.number.proofs.number_size.Given as goal
 
 pub record Inv (value rest left : ℕ) : Type 0 where

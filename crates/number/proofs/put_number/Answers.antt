@@ -1,10 +1,9 @@
 -- The store's loop: what is asked is what the stores of the groups of `rest`, from `at` on, still make of the bytes.
 use mathlib.Core.Path.{◌≡◌, refl, sym, ap, ◌∙◌}
 use mathlib.Core.List.{List, ◌∷◌}
-use Prim.Native.Nat.{ℕ, suc, ◌+◌, ◌-◌, ◌/◌, ◌%◌, ◌^◌, ◌≤◌, ◌<◌}
+use Prim.Native.Nat.{ℕ, ◌+◌, ◌-◌, ◌/◌, ◌%◌, ◌^◌, ◌≤◌, ◌<◌}
 use native.Mathlib.Omega.{arith}
 use native.Mathlib.Numerals.{add-one}
-use borrow.Author.Rules.{rules}
 use lib.ListN.{length, set, length-set}
 use lib.Seq.{sets}
 use Rattle.laws.proofs.Digits.{more_left, next_fits}

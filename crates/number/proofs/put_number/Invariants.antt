@@ -1,15 +1,10 @@
 -- The store's loop: what is asked is what the stores of the groups of `rest`, from `at` on, still make of the bytes.
-use mathlib.Core.Path.{◌≡◌, refl, sym, ap, ◌∙◌}
-use mathlib.Core.List.{List, ◌∷◌}
-use Prim.Native.Nat.{ℕ, suc, ◌+◌, ◌-◌, ◌/◌, ◌%◌, ◌^◌, ◌≤◌, ◌<◌}
-use native.Mathlib.Omega.{arith}
-use native.Mathlib.Numerals.{add-one}
-use borrow.Author.Rules.{rules}
-use lib.ListN.{length, set, length-set}
+use mathlib.Core.Path.{◌≡◌}
+use mathlib.Core.List.{List}
+use Prim.Native.Nat.{ℕ, suc, ◌+◌, ◌^◌, ◌≤◌, ◌<◌}
+use lib.ListN.{length}
 use lib.Seq.{sets}
-use Rattle.laws.proofs.Digits.{more_left, next_fits}
 use Rattle.rules.specs.Numbers.{groups, number_bytes}
-use Rattle.rules.proofs.Sizes.{one_group, more_groups}
 use Rattle.number.proofs.put_number.Given as goal
 
 pub record Inv (bytes₀ : List ℕ) (from value : ℕ) (bytes : List ℕ) (rest left at : ℕ) : Type 0 where

@@ -3,14 +3,13 @@ use mathlib.Core.Path.{◌≡◌, refl, sym, ap, ◌∙◌, subst⁻¹}
 use mathlib.Core.List.{List}
 use Prim.Native.Nat.{ℕ, ◌+◌, ◌-◌, ◌*◌, ◌^◌, ◌≤◌, ◌<◌}
 use native.Mathlib.Omega.{arith}
-use borrow.Author.Rules.{rules}
 use lib.Pow.{pow_mono, pow-add}
 use lib.ListN.{length, drop, get_or}
 use Rattle.laws.proofs.Digits.{group_below}
-use Rattle.rules.specs.Numbers.{number, groups_after}
+use Rattle.rules.specs.Numbers.{number}
 use Rattle.number.specs.declared.NumberRead.TheVariants.{Refused}
 use Rattle.number.specs.Numbers.{number_read, last_group}
-use Rattle.number.proofs.Groups.{groups_end, groups_last, groups_over, groups_more, on_top, on_top_start, on_top_stop, on_top_more, on_top_last}
+use Rattle.number.proofs.Groups.{groups_end, groups_last, groups_over, groups_more, on_top_start, on_top_stop, on_top_more, on_top_last}
 use Rattle.number.proofs.read_number.Invariants.{Inv}
 use Rattle.number.proofs.read_number.Goals as goal
 

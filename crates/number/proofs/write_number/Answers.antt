@@ -13,7 +13,6 @@ use Rattle.number.specs.declared.Written.{Written}
 use Rattle.number.specs.declared.Written.TheVariants.{Bytes, Refused}
 use Rattle.number.specs.Numbers.{written_of, left_from}
 use Rattle.number.proofs.Putting.{put_short, put_fits, sets_over}
-use borrow.Author.Rules.{rules}
 use Rattle.number.proofs.write_number.Goals as goal
 
 module _ (s : List ℕ) (from v : ℕ) where

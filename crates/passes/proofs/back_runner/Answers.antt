@@ -8,7 +8,6 @@ use lib.ListN.{length, length-take}
 use Rattle.laws.proofs.Folds.{bits, none_bits, some_bits}
 use Rattle.passes.specs.declared.Classed.{Classed}
 use Rattle.passes.specs.Classed.{no_class, rear_step, start_step, is_back, back_of}
-use borrow.Author.Rules.{rules}
 use Rattle.passes.proofs.back_runner.Goals as goal
 
 module _ (B W L : ℕ) (l : List Classed) {least latest set : ℕ}

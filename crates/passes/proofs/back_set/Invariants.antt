@@ -1,8 +1,5 @@
 -- `passes::back_set` meets its contract. The invariant: the set has the nodes from `i` on. Assumes nothing.
-use native.Mathlib.Omega.{arith}
-use borrow.Author.Rules.{rules}
-use Rattle.laws.proofs.Lists.{length_of_map}
-use Rattle.laws.proofs.Folds.{Gathered, gather_start, gather_small, gather_next, gather_end}
+use Rattle.laws.proofs.Folds.{Gathered}
 use Rattle.passes.specs.Classed.{is_back}
 use Rattle.passes.proofs.back_set.Given as goal
 

@@ -1,11 +1,9 @@
 -- `passes::classes_of` meets its contract. The invariant: the classes below `i` are written. Assumes nothing.
 use native.Mathlib.Omega.{arith}
-use borrow.Author.Rules.{rules}
 use Rattle.laws.proofs.Lists.{length_of_map}
-use Prim.Native.Nat.{◌-◌}
 use mathlib.Core.Path.{refl}
 use Rattle.laws.specs.Lists.{pad}
-use Rattle.laws.proofs.Folds.{Filled, fill_start, fill_next, fill_end}
+use Rattle.laws.proofs.Folds.{fill_start, fill_next, fill_end}
 use Rattle.passes.specs.Classed.{class_in, no_class}
 use Rattle.passes.proofs.classes_of.Goals as goal
 

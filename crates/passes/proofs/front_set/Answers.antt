@@ -1,9 +1,7 @@
 -- `passes::front_set` meets its contract. The invariant: the set has the nodes from `i` on. Assumes nothing.
 use native.Mathlib.Omega.{arith}
-use borrow.Author.Rules.{rules}
 use Rattle.laws.proofs.Lists.{length_of_map}
-use Rattle.laws.proofs.Folds.{Gathered, gather_start, gather_small, gather_next, gather_end}
-use Rattle.passes.specs.Classed.{class_in, in_front}
+use Rattle.laws.proofs.Folds.{gather_start, gather_small, gather_next, gather_end}
 use Rattle.passes.proofs.front_set.Goals as goal
 
 pub loop-i-init : goal.loop-i-init

@@ -1,7 +1,6 @@
 -- `passes::largest_start` meets its contract. The invariant: the fold over the entries below `i` is left. Assumes nothing.
 use native.Mathlib.Omega.{arith}
-use borrow.Author.Rules.{rules}
-use Rattle.laws.proofs.Folds.{Folded, fold_start, fold_next, fold_end}
+use Rattle.laws.proofs.Folds.{fold_start, fold_next, fold_end}
 use Rattle.laws.proofs.Lists.{length_of_map}
 use Rattle.passes.specs.Classed.{start_step}
 use Rattle.passes.proofs.largest_start.Goals as goal

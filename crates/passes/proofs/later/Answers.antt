@@ -2,7 +2,6 @@
 use mathlib.Core.Path.{◌≡◌}
 use mathlib.Core.Bool.{Bool, true, false}
 use Prim.Native.Nat.{ℕ, max}
-use borrow.Author.Rules.{rules}
 use Rattle.passes.specs.declared.Classed.{Classed}
 use Rattle.passes.specs.Classed.{is_rear, start_step}
 use Rattle.passes.proofs.later.Goals as goal

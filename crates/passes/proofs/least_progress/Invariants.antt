@@ -1,8 +1,5 @@
 -- `passes::least_progress` meets its contract. The invariant: the fold over the entries below `i` is left. Assumes nothing.
-use native.Mathlib.Omega.{arith}
-use borrow.Author.Rules.{rules}
-use Rattle.laws.proofs.Folds.{Folded, fold_start, fold_next, fold_end}
-use Rattle.laws.proofs.Lists.{length_of_map}
+use Rattle.laws.proofs.Folds.{Folded}
 use Rattle.passes.specs.Classed.{rear_step}
 use Rattle.passes.proofs.least_progress.Given as goal
 

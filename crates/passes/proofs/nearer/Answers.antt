@@ -1,5 +1,4 @@
 -- `passes::nearer` meets its contract. Assumes nothing.
-use borrow.Author.Rules.{rules}
 use borrow.Author.Tests.{eq-eqb, ne_eqb}
 use Rattle.passes.proofs.nearer.Goals as goal
 

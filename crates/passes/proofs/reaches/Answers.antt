@@ -2,7 +2,6 @@
 use mathlib.Core.Path.{◌≡◌}
 use mathlib.Core.Bool.{Bool, true, false}
 use Prim.Native.Nat.{ℕ}
-use borrow.Author.Rules.{rules}
 use Rattle.laws.specs.Tests.{◌=?◌}
 use Rattle.passes.specs.declared.Classed.{Classed}
 use Rattle.passes.specs.Classed.{is_rear, is_back}

@@ -1,6 +1,5 @@
 -- `passes::set_with` meets its contract. Assumes nothing.
 use native.Mathlib.Omega.{arith}
-use borrow.Author.Rules.{rules}
 use Rattle.passes.proofs.set_with.Goals as goal
 
 pub returns-then-member : goal.returns-then-member

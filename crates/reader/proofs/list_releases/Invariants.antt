@@ -1,7 +1,6 @@
 -- So many releases, read into the array one by one.
 use Prim.Native.Nat.{◌-◌}
-use borrow.Author.Rules.{rules}
-use Rattle.reader.proofs.Lists.{SoFar, list_start, list_done, list_stop, list_more}
+use Rattle.reader.proofs.Lists.{SoFar}
 use Rattle.reader.proofs.Elements.{release_kind}
 use Rattle.reader.proofs.list_releases.Given as goal
 

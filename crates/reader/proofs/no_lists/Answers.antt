@@ -5,7 +5,6 @@ use Rattle.round.specs.declared.Round.{Round}
 use Rattle.round.specs.Round.{blank}
 use Rattle.reader.specs.declared.Ended.TheVariants as ended
 use Rattle.reader.specs.Records.{no_round}
-use borrow.Author.Rules.{rules}
 use Rattle.reader.proofs.no_lists.Goals as goal
 
 is_blank : (n : ℕ) {r : Round} → r ≡ blank → record { round = r; ended = ended.Refused n } ≡ no_round n

@@ -5,7 +5,6 @@ use Rattle.round.specs.declared.Round.{Round}
 use Rattle.round.specs.Round.{blank}
 use Rattle.reader.specs.declared.RecordAnswer.TheVariants as answer
 use Rattle.reader.specs.declared.RecordRead.{RecordRead}
-use borrow.Author.Rules.{rules}
 use Rattle.reader.proofs.no_record.Goals as goal
 
 is_blank : (n : ℕ) {r : Round} → r ≡ blank → ◌≡◌ {A = RecordRead} (record { answer = answer.Refused n; used = 0; round = r }) (record { answer = answer.Refused n; used = 0; round = blank })

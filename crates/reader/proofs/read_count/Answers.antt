@@ -1,7 +1,7 @@
 -- A count, a lemma for each way out.
 use mathlib.Core.Path.{◌≡◌, sym}
 use mathlib.Core.List.{List}
-use Prim.Native.Nat.{ℕ, ◌-◌, ◌≤◌, ◌<◌}
+use Prim.Native.Nat.{ℕ, ◌≤◌, ◌<◌}
 use lib.ListN.{drop}
 use Rattle.rules.specs.Numbers.{number}
 use borrow.Author.Tests.{lt-ltb, le-ltb}
@@ -11,7 +11,6 @@ use Rattle.number.specs.Numbers.{number_read}
 use Rattle.reader.specs.Records.{count_in}
 use Rattle.number.proofs.Told.{told_done}
 use Rattle.number.proofs.Two.{one_bad, one_done}
-use borrow.Author.Rules.{rules}
 use Rattle.reader.proofs.read_count.Goals as goal
 
 module _ (s : List ℕ) (from limit room : ℕ) {a : NumberRead} (p : a ≡ number_read s (number (drop from s))) where

@@ -15,7 +15,6 @@ use Rattle.reader.specs.declared.EntryRead.TheVariants as entry
 use Rattle.reader.specs.Records.{entry_read}
 use Rattle.number.proofs.Told.{told_done}
 use Rattle.number.proofs.Two.{one_bad, one_done}
-use borrow.Author.Rules.{rules}
 use Rattle.reader.proofs.read_entry.Goals as goal
 
 module _ (s : List ℕ) (from : ℕ) {a : NumberRead} (p : a ≡ number_read s (number (drop from s))) where

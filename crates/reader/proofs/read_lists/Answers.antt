@@ -12,7 +12,6 @@ use Rattle.number.proofs.Told.{told_done}
 use Rattle.reader.proofs.Lists.{list_takes}
 use Rattle.reader.proofs.Endings.{Held, ended_next, ended_stop}
 use Rattle.reader.proofs.Elements.{release_kind, entry_kind, releases_end, entries_end}
-use borrow.Author.Rules.{rules}
 use Rattle.reader.proofs.read_lists.Goals as goal
 
 module _ (s : List ℕ) (time from j k : ℕ) {x : Releases} (p : x ≡ releases_read s (release_list j (drop from s))) where

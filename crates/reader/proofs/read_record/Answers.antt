@@ -1,6 +1,5 @@
 -- A record, with room for every one.
 use mathlib.Core.Path.{◌∙◌}
-use borrow.Author.Rules.{rules}
 use Rattle.reader.proofs.Rooms.{within_all}
 use Rattle.reader.proofs.read_record.Goals as goal
 

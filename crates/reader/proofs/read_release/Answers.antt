@@ -13,7 +13,6 @@ use Rattle.reader.specs.declared.ReleaseRead.TheVariants as release
 use Rattle.reader.specs.Records.{release_read}
 use Rattle.number.proofs.Told.{told_done}
 use Rattle.number.proofs.Two.{one_done, first_bad, second_bad, both}
-use borrow.Author.Rules.{rules}
 use Rattle.reader.proofs.read_release.Goals as goal
 
 abbrev release_told : ℕ → ℕ → Reads rules.Release

@@ -1,5 +1,4 @@
 -- A count and so many releases.
-use borrow.Author.Rules.{rules}
 use Rattle.reader.proofs.Lists.{no_count, count_asked, so_many}
 use Rattle.reader.proofs.Elements.{release_kind}
 use Rattle.reader.proofs.read_releases.Goals as goal

@@ -14,7 +14,6 @@ use Rattle.reader.specs.declared.EntryRead.TheVariants as entry
 use Rattle.reader.specs.Records.{place_as, entry_read}
 use Rattle.number.proofs.Told.{told_done}
 use Rattle.number.proofs.Two.{one_bad, one_done, first_bad, second_bad, both}
-use borrow.Author.Rules.{rules}
 use Rattle.reader.proofs.read_report.Goals as goal
 
 abbrev third_of : ℕ → ℕ → Reads (Option rules.Report)

@@ -21,7 +21,6 @@ use Rattle.number.proofs.Two.{one_bad, one_done}
 use Rattle.reader.proofs.Endings.{Held, ended_next, ended_stop}
 use Rattle.reader.proofs.Elements.{round_end, lists_take}
 use Rattle.reader.proofs.Parts.{record_parts}
-use borrow.Author.Rules.{rules}
 use Rattle.reader.proofs.read_within.Goals as goal
 
 module _ (j k : ℕ) (s : List ℕ) (from : ℕ) {q : rules.Round} {next : ℕ} (d : Done s (read_record j k (drop from s)) q next) where

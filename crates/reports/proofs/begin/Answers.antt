@@ -1,5 +1,4 @@
 -- `reports::begin` meets its contract. Assumes nothing.
-use borrow.Author.Rules.{rules}
 use Rattle.reports.proofs.begin.Goals as goal
 
 pub returns : goal.returns

@@ -11,7 +11,6 @@ use Rattle.judge.specs.Lent.{classed_at}
 use Rattle.reports.specs.declared.Told.{Told}
 use Rattle.reports.specs.declared.Judging.{Judging}
 use Rattle.reports.specs.Reports.{told_of, judged, with_next}
-use borrow.Author.Rules.{rules}
 use Rattle.reports.proofs.judge_next.Goals as goal
 
 module _ (a : Judging) (e : Told) where

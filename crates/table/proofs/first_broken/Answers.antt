@@ -1,16 +1,6 @@
 -- The loop of `first_broken`: the first of the tasks from i on that breaks a rule, and the largest C of them.
-use mathlib.Core.Path.{◌≡◌, sym, ap}
-use mathlib.Core.Bool.{Bool, not}
-use mathlib.Core.List.{List}
-use Prim.Native.Nat.{ℕ, ◌+◌, ◌-◌, ◌≤◌, ◌<◌, max}
-use native.Mathlib.Omega.{arith}
 use borrow.Author.Rules.{rules}
-use lib.ListN.{get_or}
-use Rattle.laws.specs.Tests.{if◌then◌else◌}
-use Rattle.laws.proofs.First.{First, first_is, first_end, first_down}
-use Rattle.table.specs.Check.{keeps_numbers, keeps_at, largest_from, first_breaking}
-use Rattle.table.proofs.Rules.{largest_none, largest_next}
-use Rattle.table.proofs.first_broken.Invariants.{Inv, breaks, inv_end, inv_known, inv_next, inv_start, kept}
+use Rattle.table.proofs.first_broken.Invariants.{inv_end, inv_known, inv_next, inv_start}
 use Rattle.table.proofs.first_broken.Goals as goal
 
 pub loop-i-init : goal.loop-i-init

@@ -2,7 +2,6 @@
 use mathlib.Core.List.{[], ◌∷◌}
 use Rattle.laws.proofs.Sequences.{all_left}
 use Rattle.table.specs.Check.{in_order}
-use borrow.Author.Rules.{rules}
 use Rattle.table.proofs.in_order.Goals as goal
 
 pub returns : goal.returns

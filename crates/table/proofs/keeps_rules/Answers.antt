@@ -6,7 +6,6 @@ use borrow.Author.Tests.{leb-true}
 use Rattle.laws.proofs.Tests.{each_of}
 use Rattle.rules.specs.Table.{Task}
 use Rattle.table.specs.Check.{small_numbers, in_order, keeps_numbers}
-use borrow.Author.Rules.{rules}
 use Rattle.table.proofs.keeps_rules.Goals as goal
 
 module _ (k : Task) {b : Bool} (e : b ≡ small_numbers k) where

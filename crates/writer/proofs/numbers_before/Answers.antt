@@ -1,10 +1,9 @@
 -- The numbers before the entries: those stored so far, with what is still to come behind them.
 use mathlib.Core.Path.{◌≡◌, refl, sym, ap, ◌∙◌}
 use mathlib.Core.List.{List, [], ◌∷◌, ◌++◌, foldr, append_assoc}
-use Prim.Native.Nat.{ℕ, ◌+◌, ◌-◌, ◌*◌, ◌≤◌, ◌<◌}
+use Prim.Native.Nat.{ℕ, ◌+◌, ◌≤◌, ◌<◌}
 use native.Mathlib.Omega.{arith}
 use native.Mathlib.Numerals.{add-one}
-use borrow.Author.Rules.{rules}
 use lib.ListN.{length, drop, get_or, set, length-append, drop_of_length-le}
 use Rattle.laws.specs.Lists.{pad}
 use Rattle.laws.proofs.Lists.{length_rows}

@@ -1,19 +1,13 @@
 -- The numbers before the entries: those stored so far, with what is still to come behind them.
-use mathlib.Core.Path.{◌≡◌, refl, sym, ap, ◌∙◌}
-use mathlib.Core.List.{List, [], ◌∷◌, ◌++◌, foldr, append_assoc}
-use Prim.Native.Nat.{ℕ, ◌+◌, ◌-◌, ◌*◌, ◌≤◌, ◌<◌}
-use native.Mathlib.Omega.{arith}
-use native.Mathlib.Numerals.{add-one}
-use borrow.Author.Rules.{rules}
-use lib.ListN.{length, drop, get_or, set, length-append, drop_of_length-le}
+use mathlib.Core.Path.{◌≡◌}
+use mathlib.Core.List.{List, [], ◌∷◌, ◌++◌, foldr}
+use Prim.Native.Nat.{ℕ, ◌+◌, ◌-◌, ◌*◌, ◌≤◌}
+use lib.ListN.{length, drop}
 use Rattle.laws.specs.Lists.{pad}
-use Rattle.laws.proofs.Lists.{length_rows}
-use Rattle.rules.specs.Judge as rules
 use Rattle.rules.proofs.Trip.{release_numbers}
 use Rattle.round.specs.declared.Round.{Round}
-use Rattle.round.specs.Round.{releases_of, no_release}
-use Rattle.writer.specs.Writing.{numbers_as, head_numbers}
-use Rattle.writer.proofs.Filling.{filled, releases_here}
+use Rattle.round.specs.Round.{releases_of}
+use Rattle.writer.specs.Writing.{head_numbers}
 use Rattle.writer.proofs.numbers_before.Given as goal
 
 pub record Inv (q : Round) (list : List ℕ) (n i : ℕ) : Type 0 where

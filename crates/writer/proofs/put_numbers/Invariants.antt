@@ -1,20 +1,13 @@
 -- Numbers stored one behind the other: what is asked is what the numbers from `i` on, from `at` on, still make of the bytes.
-use mathlib.Core.Path.{◌≡◌, refl, sym, ap, ap₂, ◌∙◌}
+use mathlib.Core.Path.{◌≡◌}
 use mathlib.Core.Bool.{false}
-use mathlib.Core.List.{List, [], ◌∷◌}
-use Prim.Native.Nat.{ℕ, ◌+◌, ◌-◌, ◌^◌, ◌≤◌, ◌<◌}
-use native.Mathlib.Omega.{arith}
-use borrow.Author.Rules.{rules}
-use borrow.Author.Tests.{leb-false}
-use lib.ListN.{length, drop, get_or, length-append, drop_of_length-le}
-use lib.Seq.{sets, length-sets, length-take-le}
-use Rattle.laws.specs.Tests.{◌≤?◌}
-use Rattle.laws.proofs.Tests.{or_no}
-use Rattle.rules.specs.Numbers.{number_bytes}
+use mathlib.Core.List.{List}
+use Prim.Native.Nat.{ℕ, ◌+◌, ◌-◌, ◌≤◌}
+use lib.ListN.{length, drop}
+use lib.Seq.{sets}
 use Rattle.rules.specs.Written.{bytes_of, too_large}
 use Rattle.writer.specs.declared.Numbers.{Numbers}
 use Rattle.writer.specs.Writing.{numbers_in}
-use Rattle.writer.proofs.Filling.{sets_append, numbers_here}
 use Rattle.writer.proofs.put_numbers.Given as goal
 
 pub record Inv (bytes₀ : List ℕ) (n : Numbers) (bytes : List ℕ) (at i : ℕ) : Type 0 where

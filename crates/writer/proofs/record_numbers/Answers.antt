@@ -2,9 +2,8 @@
 use mathlib.Core.Path.{◌≡◌, sym, ap, ◌∙◌}
 use mathlib.Core.Option.{Option}
 use mathlib.Core.List.{List, [], ◌++◌, foldr, append_assoc, append-nil}
-use Prim.Native.Nat.{ℕ, ◌+◌, ◌-◌, ◌*◌, ◌≤◌, ◌<◌}
+use Prim.Native.Nat.{ℕ, ◌+◌, ◌≤◌, ◌<◌}
 use native.Mathlib.Omega.{arith}
-use borrow.Author.Rules.{rules}
 use lib.ListN.{length, drop, get_or, length-append, drop_of_length-le}
 use Rattle.laws.proofs.Lists.{length_rows}
 use Rattle.rules.specs.Judge as rules

@@ -1,20 +1,10 @@
 -- The size: what was counted so far, and what the numbers from `i` on take.
-use mathlib.Core.Path.{◌≡◌, refl, ap, ◌∙◌}
-use mathlib.Core.Bool.{true, false}
-use mathlib.Core.List.{List, [], ◌∷◌}
-use Prim.Native.Nat.{ℕ, ◌+◌, ◌-◌, ◌*◌, ◌^◌, ◌≤◌, ◌<◌}
-use native.Mathlib.Omega.{arith}
-use borrow.Author.Rules.{rules}
-use borrow.Author.Tests.{le-leb, lt-leb}
-use lib.ListN.{length, drop, get_or, length-append, drop_of_length-le}
-use lib.Seq.{length-take-le}
-use Rattle.rules.specs.Numbers.{number_bytes}
+use mathlib.Core.Path.{◌≡◌}
+use Prim.Native.Nat.{ℕ, ◌+◌, ◌-◌, ◌*◌, ◌≤◌}
+use lib.ListN.{length, drop}
 use Rattle.rules.specs.Written.{bytes_of, too_large}
-use Rattle.rules.proofs.Sizes.{groups_size}
 use Rattle.writer.specs.declared.Numbers.{Numbers}
-use Rattle.writer.specs.declared.Size.TheVariants as size
-use Rattle.writer.specs.Writing.{numbers_in, size_of}
-use Rattle.writer.proofs.Filling.{numbers_here}
+use Rattle.writer.specs.Writing.{numbers_in}
 use Rattle.writer.proofs.size_in.Given as goal
 
 pub record Inv (n : Numbers) (total i : ℕ) : Type 0 where

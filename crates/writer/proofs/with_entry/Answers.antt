@@ -14,7 +14,6 @@ use Rattle.round.specs.Round.{entry_of}
 use Rattle.writer.specs.declared.Numbers.{Numbers}
 use Rattle.writer.specs.Writing.{Kept, numbers_in, numbers_as}
 use Rattle.writer.proofs.Filling.{filled}
-use borrow.Author.Rules.{rules}
 use Rattle.writer.proofs.with_entry.Goals as goal
 
 module _ {n : Numbers} (k : Kept n) where

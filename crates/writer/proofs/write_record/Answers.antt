@@ -2,7 +2,7 @@
 use mathlib.Core.Path.{◌≡◌, refl, sym, ap, ◌∙◌}
 use mathlib.Core.Bool.{Bool, true, false}
 use mathlib.Core.List.{List}
-use Prim.Native.Nat.{ℕ, ◌+◌, ◌-◌, ◌≤◌, ◌<◌}
+use Prim.Native.Nat.{ℕ, ◌+◌, ◌≤◌, ◌<◌}
 use native.Mathlib.Omega.{arith}
 use borrow.Author.Tests.{lt-ltb, le-ltb}
 use lib.ListN.{length}
@@ -22,7 +22,6 @@ use Rattle.number.specs.Numbers.{written_of, left_from}
 use Rattle.writer.specs.Writing.{numbers_in, numbers_as, size_of}
 use Rattle.number.proofs.Putting.{put_short, put_fits, sets_over}
 use Rattle.writer.proofs.Filling.{numbers_within, numbers_few}
-use borrow.Author.Rules.{rules}
 use Rattle.writer.proofs.write_record.Goals as goal
 
 -- what a size says

@@ -3,7 +3,6 @@ use mathlib.Core.Bool.{Bool, true, false, false≢true}
 use mathlib.Core.Option.{none, some}
 use Prim.Native.Nat.{ℕ, ◌+◌, ◌^◌, ◌<◌}
 use native.Mathlib.Omega.{arith}
-use borrow.Author.Rules.{rules}
 use Rattle.laws.specs.Tests.{◌<?◌, if◌then◌else◌, maybe}
 use Rattle.rules.specs.Close.{too_soon}
 use Rattle.table.specs.declared.Table.{Table}

@@ -1,12 +1,8 @@
 -- `entries::judge_entries` meets its contract. The invariant: the entries below `i` are judged. Assumes nothing.
-use Prim.Native.Nat.{◌-◌}
 use native.Mathlib.Omega.{arith}
-use borrow.Author.Rules.{rules}
 use Rattle.laws.proofs.Lists.{length_of_map}
-use Rattle.laws.proofs.Folds.{Filled, fill_start, fill_next, fill_end}
-use Rattle.round.specs.Round.{entry_of}
+use Rattle.laws.proofs.Folds.{fill_start, fill_next, fill_end}
 use Rattle.passes.specs.Classed.{no_class}
-use Rattle.judge.specs.Lent.{classed_at}
 use Rattle.judge.proofs.entries.judge_entries.Goals as goal
 
 pub loop-i-init : goal.loop-i-init

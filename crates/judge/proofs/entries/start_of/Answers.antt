@@ -1,7 +1,6 @@
 -- `entries::start_of` meets its contract. Assumes nothing.
 use borrow.Author.Tests.{eq-eqb, ne_eqb}
 use Rattle.judge.specs.Lent.{start_at}
-use borrow.Author.Rules.{rules}
 use Rattle.judge.proofs.entries.start_of.Goals as goal
 
 pub returns-then-e-length : goal.returns-then-e-length

@@ -3,7 +3,6 @@ use mathlib.Core.Path.{◌≡◌, ap}
 use mathlib.Core.List.{[], ◌∷◌}
 use Prim.Native.Nat.{ℕ, ◌+◌, ◌/◌, ◌%◌, ◌^◌, ◌≤◌, ◌<◌}
 use native.Mathlib.Omega.{arith}
-use borrow.Author.Rules.{rules}
 use lib.ListN.{length, length-append}
 use Rattle.rules.specs.Session.{decimal}
 use Rattle.lines.proofs.Decimal.{decimal_one, decimal_more, length_decimal}

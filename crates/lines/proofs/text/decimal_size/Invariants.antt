@@ -1,12 +1,8 @@
 -- The digits counted: those counted and those of the rest make one more than all.
-use mathlib.Core.Path.{◌≡◌, ap}
-use mathlib.Core.List.{[], ◌∷◌}
-use Prim.Native.Nat.{ℕ, ◌+◌, ◌/◌, ◌%◌, ◌^◌, ◌≤◌, ◌<◌}
-use native.Mathlib.Omega.{arith}
-use borrow.Author.Rules.{rules}
-use lib.ListN.{length, length-append}
+use mathlib.Core.Path.{◌≡◌}
+use Prim.Native.Nat.{ℕ, ◌+◌, ◌^◌, ◌≤◌, ◌<◌}
+use lib.ListN.{length}
 use Rattle.rules.specs.Session.{decimal}
-use Rattle.lines.proofs.Decimal.{decimal_one, decimal_more, length_decimal}
 use Rattle.lines.proofs.text.decimal_size.Given as goal
 
 pub record Inv (n rest size : ℕ) : Type 0 where

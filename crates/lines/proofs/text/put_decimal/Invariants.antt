@@ -1,15 +1,10 @@
 -- The digits put in from the last: those of the rest are still to be put before them.
-use mathlib.Core.Path.{◌≡◌, refl, sym, ap, ◌∙◌}
-use mathlib.Core.List.{List, [], ◌∷◌}
-use Prim.Native.Nat.{ℕ, ◌+◌, ◌-◌, ◌/◌, ◌%◌, ◌^◌, ◌≤◌, ◌<◌}
-use native.Mathlib.Omega.{arith}
-use borrow.Author.Rules.{rules}
-use lib.ListN.{length, set, length-set, length-append}
+use mathlib.Core.Path.{◌≡◌}
+use mathlib.Core.List.{List}
+use Prim.Native.Nat.{ℕ, ◌+◌, ◌^◌, ◌<◌}
+use lib.ListN.{length}
 use lib.Seq.{sets}
-use Rattle.laws.proofs.Runs.{sets_last}
 use Rattle.rules.specs.Session.{decimal}
-use Rattle.lines.specs.Text.{Put}
-use Rattle.lines.proofs.Decimal.{decimal_some, decimal_one, decimal_more}
 use Rattle.lines.proofs.text.put_decimal.Given as goal
 
 pub record Inv (buf₀ : List ℕ) (from n : ℕ) (buf : List ℕ) (rest at : ℕ) : Type 0 where

@@ -2,7 +2,6 @@
 use mathlib.Core.List.{List, ◌++◌}
 use Prim.Native.Nat.{ℕ, ◌+◌, ◌^◌, ◌≤◌, ◌<◌}
 use native.Mathlib.Omega.{arith}
-use borrow.Author.Rules.{rules}
 use lib.ListN.{length}
 use Rattle.rules.specs.Session.{decimal}
 use Rattle.lines.specs.Text.{Put, PutWithin}

@@ -1,10 +1,7 @@
 -- The bytes of a text put in one by one.
 use mathlib.Core.Path.{refl}
-use Prim.Native.Nat.{◌-◌}
 use native.Mathlib.Omega.{arith}
-use borrow.Author.Rules.{rules}
-use lib.ListN.{length}
-use Rattle.lines.proofs.Putting.{Copying, copy_start, copy_here, copy_step, copy_end}
+use Rattle.lines.proofs.Putting.{copy_start, copy_here, copy_step, copy_end}
 use Rattle.lines.proofs.text.put_text.Goals as goal
 
 pub loop-i-init : goal.loop-i-init

@@ -1,10 +1,7 @@
 -- The bytes of a text put in one by one.
-use mathlib.Core.Path.{refl}
 use Prim.Native.Nat.{◌-◌}
-use native.Mathlib.Omega.{arith}
-use borrow.Author.Rules.{rules}
 use lib.ListN.{length}
-use Rattle.lines.proofs.Putting.{Copying, copy_start, copy_here, copy_step, copy_end}
+use Rattle.lines.proofs.Putting.{Copying}
 use Rattle.lines.proofs.text.put_text.Given as goal
 
 abbrev pub invariant-loop-i : goal.invariant-loop-i

@@ -1,18 +1,12 @@
 -- `insertion::all_put` meets its contract. The invariant: what is left of the list, put into what the array holds, gives what the whole gives put into
 -- what it held at entry.
-use mathlib.Core.Path.{◌≡◌, refl, sym, ap, ap₂, ◌∙◌}
-use mathlib.Core.List.{List, [], ◌∷◌}
-use Prim.Native.Nat.{ℕ, ◌+◌, ◌-◌, ◌^◌, ◌≤◌, ◌<◌}
-use native.Mathlib.Omega.{arith}
-use borrow.Author.Rules.{rules}
-use lib.ListN.{length, take, drop, get_or}
-use Rattle.laws.specs.Lists.{pad, push_in}
-use Rattle.laws.proofs.Lists.{length_of_map}
+use mathlib.Core.Path.{◌≡◌}
+use mathlib.Core.List.{List}
+use Prim.Native.Nat.{ℕ, ◌+◌, ◌-◌, ◌≤◌}
+use lib.ListN.{length, take, drop}
 use Rattle.round.specs.declared.Round.{Round}
-use Rattle.round.specs.Round.{release_of, releases_of, no_release}
-use Rattle.release.specs.Insertion.{place_in, put_in, put_all, Packed, Room}
-use Rattle.release.proofs.Releases.{release_here, releases_end}
-use Rattle.release.proofs.Order.{packed_kept, packed_pad, place_within, put_long, put_packed, put_none, put_more}
+use Rattle.round.specs.Round.{releases_of}
+use Rattle.release.specs.Insertion.{put_all, Packed, Room}
 use Rattle.release.proofs.insertion.all_put.Given as goal
 
 pub record Inv (tasks : List ℕ) (count past : ℕ) (q : Round) (n : ℕ) (next : List ℕ) (i : ℕ) : Type 0 where

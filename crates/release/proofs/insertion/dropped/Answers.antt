@@ -3,7 +3,6 @@ use mathlib.Core.Path.{◌≡◌, refl, ap, ◌∙◌}
 use mathlib.Core.List.{List, []}
 use Prim.Native.Nat.{ℕ, ◌+◌, ◌-◌, ◌≤◌, ◌<◌}
 use native.Mathlib.Omega.{arith}
-use borrow.Author.Rules.{rules}
 use lib.ListN.{length, take, drop, set, get_or, length-take, length-drop}
 use lib.Seq.{get_or-drop, get_or-take, take_all}
 use Rattle.laws.specs.Lists.{pad}

@@ -1,18 +1,11 @@
 -- `insertion::place` meets its contract. The invariant: past `p` no job is of the same or a higher priority.
-use mathlib.Core.Path.{◌≡◌, sym, ◌∙◌}
+use mathlib.Core.Path.{◌≡◌}
 use mathlib.Core.Bool.{not}
 use mathlib.Core.List.{List}
-use Prim.Native.Nat.{ℕ, ◌+◌, ◌-◌, ◌≤◌, ◌<◌}
-use native.Mathlib.Omega.{arith}
-use borrow.Author.Rules.{rules}
-use borrow.Author.Tests.{lt-ltb, le-ltb}
-use lib.ListN.{length, take, drop, get_or, drop_of_length-le}
-use lib.Seq.{get_or-take, length-take-le}
+use Prim.Native.Nat.{ℕ, ◌≤◌}
+use lib.ListN.{length, take, drop}
 use Rattle.laws.specs.Tests.{◌<?◌}
 use Rattle.laws.specs.Search.{up_to_last}
-use Rattle.laws.proofs.Insertion.{last_none, last_skip, last_here}
-use Rattle.release.specs.Insertion.{place_in, Packed}
-use Rattle.release.proofs.Order.{packed_long}
 use Rattle.release.proofs.insertion.place.Given as goal
 
 pub record Inv (tasks : List ℕ) (count past task p : ℕ) : Type 0 where

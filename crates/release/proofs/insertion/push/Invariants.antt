@@ -1,14 +1,9 @@
 -- `insertion::push` meets its contract. The invariant: what is to be done to the array at entry is what is still to be done, with the job carried, from `i` on.
-use mathlib.Core.Path.{◌≡◌, refl, sym, ◌∙◌}
+use mathlib.Core.Path.{◌≡◌}
 use mathlib.Core.List.{List}
-use Prim.Native.Nat.{ℕ, ◌+◌, ◌-◌, ◌≤◌, ◌<◌}
-use native.Mathlib.Omega.{arith}
-use borrow.Author.Rules.{rules}
-use lib.ListN.{length, set, get_or, length-set}
+use Prim.Native.Nat.{ℕ, ◌-◌, ◌≤◌, ◌<◌}
+use lib.ListN.{length}
 use Rattle.laws.specs.Lists.{push_in}
-use Rattle.laws.proofs.Lists.{push_step, push_end}
-use Rattle.release.specs.Insertion.{Packed}
-use Rattle.release.proofs.Order.{packed_long}
 use Rattle.release.proofs.insertion.push.Given as goal
 
 pub record Inv (tasks₀ : List ℕ) (at n task₀ : ℕ) (tasks : List ℕ) (task i : ℕ) : Type 0 where

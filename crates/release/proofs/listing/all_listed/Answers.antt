@@ -2,13 +2,11 @@
 use mathlib.Core.Path.{◌≡◌, refl, sym, ap, ◌∙◌}
 use mathlib.Core.Bool.{true, false}
 use mathlib.Core.List.{◌∷◌}
-use Prim.Native.Nat.{ℕ, ◌+◌, ◌-◌, ◌≤◌, ◌<◌}
+use Prim.Native.Nat.{ℕ, ◌+◌, ◌≤◌, ◌<◌}
 use native.Mathlib.Omega.{arith}
-use borrow.Author.Rules.{rules}
 use lib.ListN.{length, get_or, drop}
 use Rattle.laws.specs.Lists.{rows}
 use Rattle.laws.proofs.Lists.{length_of_map, length_rows}
-use Rattle.rules.specs.Table as rules
 use Rattle.rules.specs.Close.{ill_listed}
 use Rattle.table.specs.declared.Table.{Table}
 use Rattle.table.specs.Table.{table_of, row}

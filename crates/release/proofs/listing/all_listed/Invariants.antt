@@ -1,23 +1,11 @@
 -- `listing::all_listed` meets its contract. The invariant: what is left of the list, after the delay last met, is as ill-listed as the whole.
-use mathlib.Core.Path.{◌≡◌, refl, sym, ap, ◌∙◌}
-use mathlib.Core.Bool.{true, false}
-use mathlib.Core.List.{◌∷◌}
-use Prim.Native.Nat.{ℕ, ◌+◌, ◌-◌, ◌≤◌, ◌<◌}
-use native.Mathlib.Omega.{arith}
-use borrow.Author.Rules.{rules}
-use lib.ListN.{length, get_or, drop}
-use Rattle.laws.specs.Lists.{rows}
-use Rattle.laws.proofs.Lists.{length_of_map, length_rows}
+use mathlib.Core.Path.{◌≡◌}
+use Prim.Native.Nat.{ℕ, ◌-◌, ◌≤◌}
+use lib.ListN.{length, drop}
 use Rattle.rules.specs.Table as rules
 use Rattle.rules.specs.Close.{ill_listed}
-use Rattle.table.specs.declared.Table.{Table}
-use Rattle.table.specs.Table.{table_of, row}
 use Rattle.round.specs.declared.Round.{Round}
-use Rattle.round.specs.Round.{release_of, releases_of, no_release}
-use Rattle.release.specs.declared.listing.Listed.{Listed}
-use Rattle.release.specs.declared.listing.Listed.TheVariants.{Fits, Refused}
-use Rattle.release.specs.Listing.{listing, standing}
-use Rattle.release.proofs.Releases.{release_here, releases_end, listed_none, listed_bad, listed_more}
+use Rattle.round.specs.Round.{releases_of}
 use Rattle.release.proofs.listing.all_listed.Given as goal
 
 pub record Inv (q : Round) (n count timeout least i : ℕ) : Type 0 where

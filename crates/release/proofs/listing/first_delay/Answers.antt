@@ -1,6 +1,5 @@
 use mathlib.Core.Path.{◌≡◌, refl}
 use Prim.Native.Nat.{ℕ, zero, suc}
-use borrow.Author.Rules.{rules}
 use Rattle.laws.specs.Lists.{rows}
 use lib.ListN.{get_or}
 use Rattle.rules.specs.Close.{first_delay}

@@ -1,26 +1,16 @@
 -- `spacing::all_spaced` meets its contract. The invariant: what is left of the list, from the E of those before it, is as early as the whole from the E at
 -- entry, and leaves the same E.
-use mathlib.Core.Path.{◌≡◌, refl, sym, ap₂, ◌∙◌}
-use mathlib.Core.Bool.{Bool, true, false}
-use mathlib.Core.List.{List, [], ◌∷◌, foldl}
-use Prim.Native.Nat.{ℕ, ◌+◌, ◌-◌, ◌*◌, ◌^◌, ◌≤◌, ◌<◌}
-use native.Mathlib.Omega.{arith}
-use borrow.Author.Rules.{rules}
-use lib.ListN.{length, get_or, set, drop, length-set}
-use Rattle.laws.specs.Tests.{if◌then◌else◌}
-use Rattle.laws.proofs.Lists.{length_of_map}
+use mathlib.Core.Path.{◌≡◌}
+use mathlib.Core.List.{List, foldl}
+use Prim.Native.Nat.{ℕ, ◌-◌, ◌≤◌}
+use lib.ListN.{length, drop}
 use Rattle.rules.specs.Insert.{next_E}
 use Rattle.rules.specs.Close.{too_early}
 use Rattle.table.specs.declared.Table.{Table}
 use Rattle.table.specs.Table.{table_of}
 use Rattle.round.specs.declared.Round.{Round}
-use Rattle.round.specs.Round.{release_of, releases_of, no_release}
-use Rattle.release.specs.declared.listing.Standing.TheVariants as stand
-use Rattle.release.specs.declared.spacing.Admit.{Admit}
-use Rattle.release.specs.declared.spacing.Admit.TheVariants.{At, Refused}
-use Rattle.release.specs.Listing.{standing, Listable}
-use Rattle.release.specs.Spacing.{admission, spacing}
-use Rattle.release.proofs.Releases.{Soon, release_here, releases_end, few_listed, listable, early_none, early_bad, early_more}
+use Rattle.round.specs.Round.{releases_of}
+use Rattle.release.specs.Listing.{Listable}
 use Rattle.release.proofs.spacing.all_spaced.Given as goal
 
 pub record Inv (t : Table) (q : Round) (earliest : List ℕ) (n time : ℕ) (next : List ℕ) (i : ℕ) : Type 0 where

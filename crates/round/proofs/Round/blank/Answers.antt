@@ -1,5 +1,4 @@
 -- The record that says nothing.
-use borrow.Author.Rules.{rules}
 use Rattle.round.proofs.Round.blank.Goals as goal
 
 pub returns : goal.returns

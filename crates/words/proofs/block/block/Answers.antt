@@ -1,7 +1,5 @@
 -- 64 words copied out, one a turn.
-use Prim.Native.Nat.{◌-◌}
-use borrow.Author.Rules.{rules}
-use Rattle.words.proofs.Copies.{Taken, taken_start, taken_next, taken_end}
+use Rattle.words.proofs.Copies.{taken_start, taken_next, taken_end}
 use Rattle.words.proofs.block.block.Goals as goal
 
 pub loop-i-init : goal.loop-i-init

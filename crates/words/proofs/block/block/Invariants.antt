@@ -1,7 +1,6 @@
 -- 64 words copied out, one a turn.
 use Prim.Native.Nat.{◌-◌}
-use borrow.Author.Rules.{rules}
-use Rattle.words.proofs.Copies.{Taken, taken_start, taken_next, taken_end}
+use Rattle.words.proofs.Copies.{Taken}
 use Rattle.words.proofs.block.block.Given as goal
 
 abbrev pub invariant-loop-i : goal.invariant-loop-i

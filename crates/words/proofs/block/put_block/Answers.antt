@@ -1,7 +1,6 @@
 -- 64 words copied in, one a turn.
-use Prim.Native.Nat.{◌-◌}
 use borrow.Author.Rules.{rules}
-use Rattle.words.proofs.Copies.{Putting, put_start, put_next, put_end}
+use Rattle.words.proofs.Copies.{put_start, put_next, put_end}
 use Rattle.words.proofs.block.put_block.Goals as goal
 
 pub loop-i-init : goal.loop-i-init

@@ -1,7 +1,6 @@
 -- 256 bytes copied in as words, one a turn.
 use Prim.Native.Nat.{◌-◌}
-use borrow.Author.Rules.{rules}
-use Rattle.words.proofs.Copies.{Putting, put_start, put_next, put_end}
+use Rattle.words.proofs.Copies.{Putting}
 use Rattle.words.proofs.block.put_tasks.Given as goal
 
 abbrev pub invariant-loop-i : goal.invariant-loop-i

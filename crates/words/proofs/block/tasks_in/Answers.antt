@@ -1,12 +1,11 @@
 -- 256 bytes copied out of words, one a turn.
 use mathlib.Core.List.{List}
-use Prim.Native.Nat.{ℕ, ◌+◌, ◌-◌, ◌<◌}
+use Prim.Native.Nat.{ℕ, ◌+◌, ◌<◌}
 use lib.ListN.{get_or}
 use mir.Syntax.{w8}
 use mir.Val.{Fits}
-use borrow.Author.Rules.{rules}
 use Rattle.words.specs.Words.{BytesIn}
-use Rattle.words.proofs.Copies.{Taken, taken_start, taken_next, taken_end}
+use Rattle.words.proofs.Copies.{taken_start, taken_next, taken_end}
 use Rattle.words.proofs.block.tasks_in.Goals as goal
 
 byte_fits : {n from : ℕ} {words : List ℕ} → BytesIn n from words → {i : ℕ} → i < n → Fits w8 (get_or words (from + i) 0)

@@ -5,7 +5,6 @@ use Rattle.rules.specs.Answer.{refused}
 use Rattle.table.specs.declared.Table.{Table}
 use Rattle.words.specs.declared.tables.TableIn.{TableIn}
 use Rattle.words.specs.Table.{no_table, told_table}
-use borrow.Author.Rules.{rules}
 use Rattle.words.proofs.tables.refused_table.Goals as goal
 
 is_refused : (n : ℕ) {t : Table} → t ≡ no_table → ◌≡◌ {A = TableIn} (record { refusal = n; table = t }) (told_table (refused n))

@@ -15,7 +15,6 @@ use Rattle.table.proofs.Settled.{checked}
 use Rattle.words.specs.declared.tables.TableIn.{TableIn}
 use Rattle.words.specs.Table.{table_in, passes, table_at, told_table}
 use Rattle.words.proofs.Table.{at_other_length, at_broken, at_passed}
-use borrow.Author.Rules.{rules}
 use Rattle.words.proofs.tables.table_in.Goals as goal
 
 module _ (ws : List ℕ) where

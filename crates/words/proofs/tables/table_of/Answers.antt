@@ -5,7 +5,6 @@ use Prim.Native.Nat.{ℕ}
 use lib.ListN.{take, drop, get_or}
 use Rattle.table.specs.declared.Table.{Table}
 use Rattle.words.specs.Table.{table_in}
-use borrow.Author.Rules.{rules}
 use Rattle.words.proofs.tables.table_of.Goals as goal
 
 is_table :
