@@ -1,9 +1,9 @@
 -- A line at the front of the line buffer, put behind the lines that are gathered.
-use mathlib.Core.Path.{◌≡◌, refl, sym, ap, ◌∙◌}
-use mathlib.Core.List.{List, ◌++◌, map}
-use Prim.Native.Nat.{ℕ, ◌+◌, ◌^◌, ◌≤◌, ◌<◌}
+use mathlib.Core.Path.{◌≡◌, sym, ap, ◌∙◌}
+use mathlib.Core.List.{List, map}
+use Prim.Native.Nat.{ℕ, ◌+◌, ◌≤◌}
 use native.Mathlib.Omega.{arith}
-use lib.ListN.{length, take, drop, length-append, length-drop, length-take, length-map}
+use lib.ListN.{length, take, drop, length-append, length-take, length-map}
 use lib.Seq.{take_at}
 use Rattle.laws.specs.Lists.{over}
 use Rattle.rules.specs.Common as rules

@@ -8,7 +8,7 @@ use native.Mathlib.Omega.{arith}
 use lib.ListN.{length, take, drop}
 use Rattle.rules.specs.Answer.{Answer, done, refused, refused_by}
 use Rattle.rules.specs.Judge as rules
-use Rattle.rules.specs.Close.{Closed, Verdict, close}
+use Rattle.rules.specs.Close.{Closed, close}
 use Rattle.rules.specs.Numbers.{Read, after}
 use Rattle.rules.specs.Written.{read_record}
 use Rattle.rules.specs.Sound.{Sound}

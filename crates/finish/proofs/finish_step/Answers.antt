@@ -2,9 +2,7 @@
 use mathlib.Core.Path.{◌≡◌, ◌∙◌, ap}
 use Prim.Native.Nat.{ℕ}
 use Rattle.node.specs.declared.Finishing.{Finishing}
-use Rattle.finish.specs.declared.Finished.{Finished}
 use Rattle.finish.specs.Finish.{number_of, numbers_of}
-use borrow.Author.Rules.{rules}
 use Rattle.finish.proofs.finish_step.Goals as goal
 
 told : {f g : Finishing} → f ≡ g → {k : ℕ} → k ≡ number_of f.answer

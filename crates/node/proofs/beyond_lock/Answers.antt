@@ -7,7 +7,6 @@ use Rattle.node.specs.declared.Sent.{Sent}
 use Rattle.node.specs.declared.Opening.{Opening}
 use Rattle.node.specs.declared.Opening.TheVariants as opening
 use Rattle.node.specs.Node.{round_of, beyond_lock_at, Lockable}
-use borrow.Author.Rules.{rules}
 use Rattle.node.proofs.beyond_lock.Goals as goal
 
 module _ {o : Opening} {s : Sent} (g : o ≡ opening.Open s) where

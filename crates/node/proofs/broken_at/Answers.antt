@@ -1,6 +1,5 @@
 -- The bound is asked past the offset, and with no round open.
 use borrow.Author.Tests.{le-leb, lt-leb}
-use borrow.Author.Rules.{rules}
 use Rattle.node.proofs.broken_at.Goals as goal
 
 pub returns-then-position-common : goal.returns-then-position-common

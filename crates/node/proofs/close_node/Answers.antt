@@ -24,7 +24,6 @@ use Rattle.node.specs.declared.Check.{Check}
 use Rattle.node.specs.declared.Check.TheVariants as check
 use Rattle.node.specs.Node.{node_of, own_rule, check_of, Given, not_closed, node_closing, closed_now}
 use Rattle.node.proofs.Laws.{own_stops, own_passes, common_given}
-use borrow.Author.Rules.{rules}
 use Rattle.node.proofs.close_node.Goals as goal
 
 -- what the common record answered, by its outcome

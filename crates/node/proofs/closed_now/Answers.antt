@@ -8,7 +8,6 @@ use Rattle.node.specs.declared.Node.{Node}
 use Rattle.node.specs.declared.NodeClosing.{NodeClosing}
 use Rattle.node.specs.declared.Opening.TheVariants as opening
 use Rattle.node.specs.Node.{closed_now}
-use borrow.Author.Rules.{rules}
 use Rattle.node.proofs.closed_now.Goals as goal
 
 abbrev closed_at : Node → Closing → ℕ → NodeClosing

@@ -14,7 +14,6 @@ use Rattle.node.specs.declared.Check.TheVariants as check
 use Rattle.node.specs.declared.FinishAnswer.TheVariants as finish
 use Rattle.node.specs.Node.{node_of, clock_rule, check_of, Ours, finishing}
 use Rattle.node.proofs.Laws.{rebuilt, clock_stops, clock_runs}
-use borrow.Author.Rules.{rules}
 use Rattle.node.proofs.finish_node.Goals as goal
 
 module _ (n : Node) (now : ℕ) {a : Check} (p : a ≡ check_of (clock_rule n.latest n.progress n.common.base now)) where

@@ -10,7 +10,6 @@ use Rattle.node.specs.declared.Node.{Node}
 use Rattle.node.specs.declared.MakeAnswer.TheVariants as make
 use Rattle.node.specs.Node.{node_as, making}
 use Rattle.node.proofs.Laws.{stopped, passed}
-use borrow.Author.Rules.{rules}
 use Rattle.node.proofs.fresh_node.Goals as goal
 
 module _ (t : Table) (i : ℕ) {n : Node} where

@@ -23,7 +23,6 @@ use Rattle.node.specs.declared.Permission.{Permission}
 use Rattle.node.specs.declared.Permission.TheVariants as permission
 use Rattle.node.specs.Node.{node_of, round_of, beyond_lock_at, broken_at, Lockable, Asking, permission_rule, permission_of}
 use Rattle.node.proofs.Laws.{stopped, passed, stopped_by, passed_by, common_given, progress_within, strictly}
-use borrow.Author.Rules.{rules}
 use Rattle.node.proofs.may_start.Goals as goal
 
 module _ {t : Table} {n : Node} {now : ℕ} (v : Asking t n now) where

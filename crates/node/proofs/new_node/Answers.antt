@@ -8,7 +8,6 @@ use Rattle.common.specs.declared.Common.{Common}
 use Rattle.common.specs.Common.{common_as}
 use Rattle.node.specs.declared.Opening.TheVariants as opening
 use Rattle.node.specs.Node.{node_as}
-use borrow.Author.Rules.{rules}
 use Rattle.node.proofs.new_node.Goals as goal
 
 made : (i : ℕ) {c : Common} → c ≡ common_as fresh

@@ -7,7 +7,6 @@ use native.Mathlib.Omega.{arith}
 use borrow.Author.Tests.{lt-leb, le-leb}
 use Rattle.laws.specs.Tests.{◌<?◌, ◌≤?◌, if◌then◌else◌, found}
 use Rattle.rules.specs.Common.{L, projection, breaker}
-use Rattle.rules.specs.Common as rules
 use Rattle.rules.proofs.Tables.{fit, timeout_small}
 use Rattle.table.specs.Table.{table_of}
 use Rattle.table.specs.declared.Table.{Table}
@@ -19,7 +18,6 @@ use Rattle.common.specs.Raw.{breach_of}
 use Rattle.common.specs.Positions.{Projectable, Occupied}
 use Rattle.common.proofs.Records.{length_is, numbers}
 use Rattle.node.specs.Node.{broken_at, Reachable, next_soon_at}
-use borrow.Author.Rules.{rules}
 use Rattle.node.proofs.next_soon.Goals as goal
 
 -- "is ≤ O or within the bound": what an answer says of it

@@ -15,7 +15,6 @@ use Rattle.node.specs.declared.Check.{Check}
 use Rattle.node.specs.declared.Check.TheVariants as check
 use Rattle.node.specs.Node.{node_of, round_of, clock_rule, check_of, Given, Asking, reporting, reported_now}
 use Rattle.node.proofs.Laws.{rebuilt, clock_stops, clock_runs, on_time, stopped, passed}
-use borrow.Author.Rules.{rules}
 use Rattle.node.proofs.report_node.Goals as goal
 
 module _ {t : Table} {n : Node} (v : Given t n) (r : ℕ) {a : Check} (p : a ≡ check_of (clock_rule n.latest n.progress n.common.base r)) where

@@ -22,7 +22,6 @@ use Rattle.node.specs.declared.Check.{Check}
 use Rattle.node.specs.declared.Check.TheVariants as check
 use Rattle.node.specs.Node.{node_of, clock_rule, check_of, Given, Asking, permission_rule, permission_of, Startable, starting, started_now}
 use Rattle.node.proofs.Laws.{rebuilt, clock_stops, clock_runs, on_time, permission_stops, permission_waits, permission_grants, common_given, progress_within, strictly}
-use borrow.Author.Rules.{rules}
 use Rattle.node.proofs.start_node.Goals as goal
 
 module _ {t : Table} {n : Node} (v : Given t n) (now : ℕ) {a : Check} (p : a ≡ check_of (clock_rule n.latest n.progress n.common.base now)) where

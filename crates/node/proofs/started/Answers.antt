@@ -11,7 +11,6 @@ use Rattle.node.specs.declared.Node.{Node}
 use Rattle.node.specs.declared.StartAnswer.TheVariants as starts
 use Rattle.node.specs.Node.{Startable, started_now}
 use Rattle.node.proofs.Laws.{common_given}
-use borrow.Author.Rules.{rules}
 use Rattle.node.proofs.started.Goals as goal
 
 module _ {n : Node} (v : Startable n) where

@@ -1,5 +1,4 @@
 -- `next_turn` meets its contract: a lemma for each way out.
-use borrow.Author.Rules.{rules}
 use Rattle.turn.proofs.Read.{no_record, no_close, all_closed}
 use Rattle.turn.proofs.next_turn.Goals as goal
 

@@ -7,7 +7,6 @@ use Rattle.round.specs.declared.Report.{Report}
 use Rattle.round.specs.declared.Entry.{Entry}
 use Rattle.round.specs.declared.Entry.TheVariants as entry
 use Rattle.round.specs.Round.{sent_report, entry_of}
-use borrow.Author.Rules.{rules}
 use Rattle.node.proofs.own.as_sent.Goals as goal
 
 present : (d : Report) {x : Entry} {e : Report} → x ≡ entry.Sent e

@@ -21,7 +21,6 @@ use Rattle.node.specs.declared.Check.TheVariants as check
 use Rattle.node.specs.Node.{node_of, own_rule, check_of}
 use Rattle.node.specs.Node as values
 use Rattle.node.proofs.Laws.{stopped, passed}
-use borrow.Author.Rules.{rules}
 use Rattle.node.proofs.own.own_check.Goals as goal
 
 entry_kept : (x : Option judges.Report) → entry_of (entry_as x) ≡ x

@@ -14,7 +14,6 @@ use Rattle.round.specs.declared.Entry.TheVariants as entry
 use Rattle.round.specs.declared.Place.{Place}
 use Rattle.round.specs.declared.Round.{Round}
 use Rattle.round.specs.Round.{entry_of, entry_as, no_entry}
-use borrow.Author.Rules.{rules}
 use Rattle.node.proofs.own.own_entry.Goals as goal
 
 entry_back : (x : Entry) → entry_as (entry_of x) ≡ x

@@ -1,14 +1,9 @@
 -- The words of a stretch, tested one a turn: what is left decides.
-use mathlib.Core.Path.{◌≡◌, refl, sym, ap, ◌∙◌}
-use mathlib.Core.Bool.{true, false}
-use mathlib.Core.List.{List, ◌∷◌}
-use Prim.Native.Nat.{ℕ, suc, ◌+◌, ◌-◌, ◌≤◌, ◌<◌}
-use native.Mathlib.Omega.{arith}
-use borrow.Author.Rules.{rules}
-use lib.ListN.{length, take, drop, get_or}
-use Rattle.laws.proofs.Lists.{drop_here}
+use mathlib.Core.Path.{◌≡◌}
+use mathlib.Core.List.{List}
+use Prim.Native.Nat.{ℕ, ◌-◌, ◌≤◌}
+use lib.ListN.{length, take, drop}
 use Rattle.states.specs.Common.{all_below}
-use Rattle.states.proofs.Below.{below_none, below_more, below_stop}
 use Rattle.states.proofs.commons.all_below.Given as goal
 
 pub record Inv (words : List ℕ) (from to limit i : ℕ) : Type 0 where

@@ -6,7 +6,6 @@ use Rattle.common.specs.declared.Common.{Common}
 use Rattle.common.specs.Common.{common_as}
 use Rattle.states.specs.declared.commons.CommonIn.{CommonIn}
 use Rattle.states.specs.Common.{no_common}
-use borrow.Author.Rules.{rules}
 use Rattle.states.proofs.commons.no_common.Goals as goal
 
 is_fresh : (n : ℕ) {c : Common} → c ≡ common_as fresh → ◌≡◌ {A = CommonIn} (record { refusal = n; common = c }) (no_common n)

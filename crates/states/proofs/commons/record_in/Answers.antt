@@ -6,7 +6,6 @@ use lib.ListN.{take, drop, get_or}
 use Rattle.laws.specs.Tests.{◌=?◌}
 use Rattle.common.specs.declared.Common.{Common}
 use Rattle.states.specs.Common.{common_in}
-use borrow.Author.Rules.{rules}
 use Rattle.states.proofs.commons.record_in.Goals as goal
 
 the_parts : (ws : List ℕ) {tasks : List ℕ} → tasks ≡ take 256 (drop 70 ws) → {earliest : List ℕ} → earliest ≡ take 64 (drop 6 ws)

@@ -1,15 +1,11 @@
 -- The sum of E, one a turn: so far with what is left it is the whole, and it is small.
-use mathlib.Core.Path.{◌≡◌, refl, sym, ap, ◌∙◌}
+use mathlib.Core.Path.{◌≡◌}
 use mathlib.Core.Bool.{true}
 use mathlib.Core.List.{List}
-use Prim.Native.Nat.{ℕ, ◌+◌, ◌-◌, ◌*◌, ◌^◌, ◌≤◌, ◌<◌}
-use native.Mathlib.Omega.{arith}
-use borrow.Author.Rules.{rules}
-use lib.ListN.{length, drop, get_or, drop_of_length-le}
+use Prim.Native.Nat.{ℕ, ◌+◌, ◌-◌, ◌*◌, ◌^◌, ◌≤◌}
+use lib.ListN.{length, drop}
 use Rattle.laws.specs.Sums.{total}
-use Rattle.laws.proofs.Lists.{drop_here}
 use Rattle.states.specs.Common.{all_below}
-use Rattle.states.proofs.Below.{each_below}
 use Rattle.states.proofs.commons.sum_of.Given as goal
 
 pub record Inv (earliest : List ℕ) (sum i : ℕ) : Type 0 where

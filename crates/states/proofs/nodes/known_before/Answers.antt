@@ -7,7 +7,6 @@ use lib.ListN.{get_or}
 use Rattle.laws.specs.Tests.{all_of}
 use Rattle.node.specs.declared.Sent.{Sent}
 use Rattle.states.specs.Node.{sent_in, known_own, known_round, known_before}
-use borrow.Author.Rules.{rules}
 use Rattle.states.proofs.nodes.known_before.Goals as goal
 
 module _ (nodes last : ℕ) (ws : List ℕ) {b : Bool} (p : b ≡ known_own nodes last (get_or ws 0 0) (get_or ws 1 0) (get_or ws 2 0) (get_or ws 3 0) (get_or ws 4 0)) where

@@ -5,7 +5,6 @@ use Prim.Native.Nat.{ℕ}
 use borrow.Author.Tests.{eq-eqb, ne_eqb}
 use Rattle.node.specs.declared.Sent.{Sent}
 use Rattle.states.specs.Node.{known_sent, none_sent, known_round}
-use borrow.Author.Rules.{rules}
 use Rattle.states.proofs.nodes.known_round.Goals as goal
 
 module _ (last opened : ℕ) (s : Sent) where

@@ -11,7 +11,6 @@ use Rattle.node.specs.declared.Making.{Making}
 use Rattle.node.specs.Node.{node_as, making}
 use Rattle.states.specs.declared.nodes.NodeIn.{NodeIn}
 use Rattle.states.specs.Node.{no_node}
-use borrow.Author.Rules.{rules}
 use Rattle.states.proofs.nodes.no_node.Goals as goal
 
 beside : (b : Bool) → (making (refuse 1 if b else done (new_node 0))).node ≡ node_as (new_node 0)

@@ -10,7 +10,6 @@ use Rattle.node.specs.declared.Opening.{Opening}
 use Rattle.node.specs.declared.Node.{Node}
 use Rattle.states.specs.Common.{common_in}
 use Rattle.states.specs.Node.{sent_in, round_in, node_in}
-use borrow.Author.Rules.{rules}
 use Rattle.states.proofs.nodes.record_in.Goals as goal
 
 module _ (ws : List ℕ) {c : Common} (k : c ≡ common_in (drop 10 ws)) {s : Sent} (e : s ≡ sent_in ws) {o : Opening} (q : o ≡ round_in (get_or ws 5 0) s) where

@@ -5,7 +5,6 @@ use Rattle.node.specs.declared.Sent.{Sent}
 use Rattle.node.specs.declared.Opening.{Opening}
 use Rattle.node.specs.declared.Opening.TheVariants as opening
 use Rattle.states.specs.Node.{round_words}
-use borrow.Author.Rules.{rules}
 use Rattle.states.proofs.nodes.round_words.Goals as goal
 
 module _ {o : Opening} where

@@ -1,7 +1,6 @@
 -- Each number at its place.
 use mathlib.Core.Path.{refl}
 use Rattle.states.specs.Node.{sent_in}
-use borrow.Author.Rules.{rules}
 use Rattle.states.proofs.nodes.sent_in.Goals as goal
 
 pub returns : goal.returns

@@ -1,9 +1,6 @@
 -- A run of words copied in, one a turn.
 use mathlib.Core.Path.{refl}
-use Prim.Native.Nat.{◌-◌}
-use lib.ListN.{length}
-use borrow.Author.Rules.{rules}
-use Rattle.words.proofs.Copies.{Putting, put_start, put_next, put_end}
+use Rattle.words.proofs.Copies.{put_start, put_next, put_end}
 use Rattle.states.proofs.runs.put_run.Goals as goal
 
 pub loop-i-init : goal.loop-i-init

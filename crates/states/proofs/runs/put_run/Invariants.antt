@@ -1,9 +1,7 @@
 -- A run of words copied in, one a turn.
-use mathlib.Core.Path.{refl}
 use Prim.Native.Nat.{◌-◌}
 use lib.ListN.{length}
-use borrow.Author.Rules.{rules}
-use Rattle.words.proofs.Copies.{Putting, put_start, put_next, put_end}
+use Rattle.words.proofs.Copies.{Putting}
 use Rattle.states.proofs.runs.put_run.Given as goal
 
 abbrev pub invariant-loop-i : goal.invariant-loop-i

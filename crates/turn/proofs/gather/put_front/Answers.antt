@@ -1,7 +1,6 @@
 -- The first bytes of a line buffer, put into another.
 use native.Mathlib.Omega.{arith}
 use lib.ListN.{length-take}
-use borrow.Author.Rules.{rules}
 use Rattle.turn.proofs.gather.put_front.Goals as goal
 
 pub slice_bounds-put_text-end : goal.slice_bounds-put_text-end

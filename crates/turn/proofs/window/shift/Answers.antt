@@ -4,7 +4,6 @@ use mathlib.Core.List.{List, [], ◌∷◌, ◌++◌, append_assoc}
 use Prim.Native.Nat.{ℕ, suc, ◌+◌, ◌-◌, ◌≤◌, ◌<◌}
 use native.Mathlib.Omega.{arith}
 use native.Mathlib.Numerals.{add-one}
-use borrow.Author.Rules.{rules}
 use lib.ListN.{length, take, drop, get_or, set, length-set, length-take, length-drop}
 use lib.Seq.{take-suc, drop-cons, get_or-append-add, get_or-drop, set_at}
 use Rattle.laws.specs.Lists.{over}

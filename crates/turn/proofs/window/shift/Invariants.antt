@@ -1,13 +1,8 @@
 -- The bytes not yet used, moved to the front one by one: each is read before its own place is written.
-use mathlib.Core.Path.{◌≡◌, refl, sym, ap, ap₂, ◌∙◌}
-use mathlib.Core.List.{List, [], ◌∷◌, ◌++◌, append_assoc}
-use Prim.Native.Nat.{ℕ, suc, ◌+◌, ◌-◌, ◌≤◌, ◌<◌}
-use native.Mathlib.Omega.{arith}
-use native.Mathlib.Numerals.{add-one}
-use borrow.Author.Rules.{rules}
-use lib.ListN.{length, take, drop, get_or, set, length-set, length-take, length-drop}
-use lib.Seq.{take-suc, drop-cons, get_or-append-add, get_or-drop, set_at}
-use Rattle.laws.specs.Lists.{over}
+use mathlib.Core.Path.{◌≡◌}
+use mathlib.Core.List.{List, ◌++◌}
+use Prim.Native.Nat.{ℕ, ◌+◌, ◌-◌, ◌≤◌}
+use lib.ListN.{length, take, drop}
 use Rattle.turn.proofs.window.shift.Given as goal
 
 pub record Moved (s : List ℕ) (from count : ℕ) (bytes : List ℕ) (i : ℕ) : Type 0 where
