@@ -1,6 +1,5 @@
 -- What the doors answer, and what they leave in what was lent.
-use Rattle.std.specs.Prelude.{Bool, List, [], ℕ, ◌-◌, length}
-use Rattle.laws.specs.Tests.{if◌then◌else◌}
+use Rattle.std.specs.Prelude.{Bool, List, [], ℕ, ◌-◌, length, if◌then◌else◌}
 use Rattle.laws.specs.Lists.{pad}
 use Rattle.rules.specs.Answer.{Answer, done, refused, refused_by}
 use Rattle.rules.specs.Judge as rounds

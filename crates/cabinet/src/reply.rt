@@ -1,6 +1,5 @@
 // What the doors answer: `refusal` is 0 where the call was accepted, else its number, and then the rest is empty.
-ghost use Rattle.std.specs.Prelude.{◌≡◌, []};
-ghost use Rattle.laws.specs.Tests.{if◌then◌else◌};
+ghost use Rattle.std.specs.Prelude.{◌≡◌, [], if◌then◌else◌};
 ghost use Rattle.cabinet.specs.Replies.{bit, no_close};
 
 // `value` is what the call was asked for: a task, a count, a time; beside refusals 2 and 9 it is the task that these name, but not where a table is read.

@@ -3,6 +3,7 @@
 --     trial-says          what is tried before judging: the rules' refusal, or what they passed
 --     judged-so           a judgement of a record that was given back, and a list that passed 15
 --     stopped-early, concluded     the two ways out of a close
+use Rattle.std.specs.Prelude.{if◌then◌else◌}
 use mathlib.Core.Path.{◌≡◌, refl, sym, ap, ap₂, ◌∙◌, subst}
 use mathlib.Core.Bool.{Bool, true, false}
 use mathlib.Core.Option.{Option, some}
@@ -11,7 +12,7 @@ use Prim.Native.Nat.{ℕ, ◌+◌, ◌-◌}
 use native.Mathlib.Omega.{arith}
 use borrow.Author.Tests.{leb-false}
 use lib.ListN.{take, drop}
-use Rattle.laws.specs.Tests.{◌<?◌, if◌then◌else◌}
+use Rattle.laws.specs.Tests.{◌<?◌}
 use Rattle.laws.specs.Lists.{pad}
 use Rattle.laws.proofs.Lists.{map_drop}
 use Rattle.rules.specs.Answer.{done, refused, refuse◌if◌else◌}

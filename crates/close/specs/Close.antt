@@ -1,7 +1,7 @@
 -- What a close answers by value, and the steps to it on the arrays. That they lead to the rules' close is proved in proofs/Closed.antt.
-use Rattle.std.specs.Prelude.{false, List, [], map, ℕ, ◌+◌, ◌-◌, ◌^◌, ◌≤◌, ◌<◌, take, drop, get_or}
+use Rattle.std.specs.Prelude.{false, List, [], map, ℕ, ◌+◌, ◌-◌, ◌^◌, ◌≤◌, ◌<◌, take, drop, get_or, if◌then◌else◌}
 use Rattle.std.proofs.Math.Option.{some}
-use Rattle.laws.specs.Tests.{◌<?◌, if◌then◌else◌}
+use Rattle.laws.specs.Tests.{◌<?◌}
 use Rattle.laws.specs.Lists.{pad}
 use Rattle.rules.specs.Answer.{Answer, done, refused, refused_by}
 use Rattle.rules.specs.Common as rules

@@ -1,6 +1,5 @@
 -- What is tried before anything is judged: "then 3, 14, 15, 16".
-use Rattle.std.specs.Prelude.{List, ℕ}
-use Rattle.laws.specs.Tests.{if◌then◌else◌}
+use Rattle.std.specs.Prelude.{List, ℕ, if◌then◌else◌}
 use Rattle.rules.specs.Table.{Table}
 use Rattle.rules.specs.Common.{Common}
 use Rattle.rules.specs.Judge.{Round}

@@ -1,4 +1,5 @@
 -- A record by value and the record that it stands for: each is the other's one image, and what is known of one that this library gave back.
+use Rattle.std.specs.Prelude.{if◌then◌else◌}
 use mathlib.Core.Path.{◌≡◌, refl, sym, ap, ◌∙◌, subst}
 use mathlib.Core.Bool.{Bool, true, false}
 use mathlib.Core.Option.{Option, none, some}
@@ -7,7 +8,7 @@ use Prim.Native.Nat.{ℕ, ◌+◌, ◌^◌, ◌≤◌, ◌<◌}
 use native.Mathlib.Omega.{arith}
 use lib.ListN.{length, take, get_or, length-map, get_or-map}
 use lib.Seq.{get_or-take}
-use Rattle.laws.specs.Tests.{if◌then◌else◌, found, maybe}
+use Rattle.laws.specs.Tests.{found, maybe}
 use Rattle.laws.specs.Lists.{pad}
 use Rattle.laws.proofs.Lists.{take_pad, length_pad}
 use Rattle.rules.specs.Common as rules

@@ -1,7 +1,7 @@
 -- What a common record by value stands for, the one value that stands for a common record of the rules, and what a record is that this library gave back.
-use Rattle.std.specs.Prelude.{◌≡◌, map, ℕ, length, take}
+use Rattle.std.specs.Prelude.{◌≡◌, map, ℕ, length, take, if◌then◌else◌}
 use Rattle.std.proofs.Math.Option.{none, some}
-use Rattle.laws.specs.Tests.{if◌then◌else◌, found, maybe}
+use Rattle.laws.specs.Tests.{found, maybe}
 use Rattle.laws.specs.Lists.{pad}
 use Rattle.rules.specs.Common as rules
 use Rattle.rules.specs.Sound.{Sound}

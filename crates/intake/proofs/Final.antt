@@ -1,5 +1,6 @@
 -- A reading of the bytes that have come so far: every answer but 18 stays the same whatever bytes follow, and 18 is given of few bytes only.
 -- So a program that keeps a window of the input waits for more at 18 and at nothing else, and its window never fills up.
+use Rattle.std.specs.Prelude.{if◌then◌else◌}
 use mathlib.Core.Path.{◌≡◌, refl}
 use mathlib.Core.Logic.{◌⊎◌, inl, inr, ⊎_elim}
 use mathlib.Core.Bool.{Bool, true, false, not, ◌&&◌}
@@ -10,7 +11,7 @@ use native.Mathlib.Nat.{mul-le-mul_right, suc-mul}
 use native.Mathlib.Omega.{arith}
 use borrow.Author.Tests.{ltb-false, eqb-false}
 use lib.ListN.{length}
-use Rattle.laws.specs.Tests.{◌<?◌, ◌=?◌, if◌then◌else◌}
+use Rattle.laws.specs.Tests.{◌<?◌, ◌=?◌}
 use Rattle.laws.specs.Search.{lowest}
 use Rattle.laws.proofs.Tests.{lt_or_ge, none_of}
 use Rattle.rules.specs.Answer.{Answer, done, refused, refused_by, refuse◌if◌else◌, refuse◌naming◌else◌}

@@ -1,6 +1,5 @@
 // The entries of a round, each with its class and what the passes read of it.
-ghost use Rattle.std.specs.Prelude.{◌≡◌, true, map, ◌+◌, ◌^◌, ◌≤◌, ◌<◌, take};
-ghost use Rattle.laws.specs.Tests.{if◌then◌else◌};
+ghost use Rattle.std.specs.Prelude.{◌≡◌, true, map, ◌+◌, ◌^◌, ◌≤◌, ◌<◌, take, if◌then◌else◌};
 ghost use Rattle.laws.specs.Lists.{pad};
 ghost use Rattle.rules.specs.Judge.{numbers};
 ghost use Rattle.round.specs.Round.{sent_report, report_as, entry_of};

@@ -3,6 +3,7 @@
 --     Clear, clear-start, clear_next, clear-found, clear-end a loop that goes up from 0 and stops there
 --     first-end, first-down                                  a loop that goes down and keeps the last that it met
 --     first-same, first_below, first-lowest, first-none      tests that agree; a limit below; the search from 0
+use Rattle.std.specs.Prelude.{if◌then◌else◌}
 use mathlib.Core.Path.{◌≡◌, sym, ap, ◌∙◌}
 use mathlib.Core.Bool.{Bool, true, false, not}
 use mathlib.Core.Option.{Option, none, some}
@@ -11,7 +12,7 @@ use Prim.Native.Nat.{ℕ, ◌+◌, ◌-◌, ◌≤◌, ◌<◌}
 use native.Mathlib.Omega.{arith}
 use native.Mathlib.Nat.{eq-or-lt_of_le}
 use borrow.Author.Tests.{lt-ltb, le-ltb}
-use Rattle.laws.specs.Tests.{◌<?◌, if◌then◌else◌, maybe, found}
+use Rattle.laws.specs.Tests.{◌<?◌, maybe, found}
 use Rattle.laws.specs.Search.{lowest, first_from}
 use Rattle.laws.proofs.Tests.{lt_or_ge, not_found}
 use Rattle.laws.proofs.Search.{lowest_found, lowest_says, find_none, lowest_same, Says}

@@ -1,4 +1,5 @@
 -- Laws of the least of a sequence: one comparison with it tells whether any of the sequence lies below a number.
+use Rattle.std.specs.Prelude.{if◌then◌else◌}
 use mathlib.Core.Path.{◌≡◌, refl, ap, ◌∙◌}
 use mathlib.Core.Bool.{Bool, true, false, ◌||◌}
 use mathlib.Core.Option.{Option, none, some}
@@ -7,7 +8,7 @@ use Prim.Native.Nat.{ℕ, zero, suc, ◌+◌, ◌≤◌, ◌<◌, min}
 use native.Mathlib.Omega.{arith}
 use native.Mathlib.Numerals.{add-one}
 use borrow.Author.Tests.{lt-ltb, le-ltb}
-use Rattle.laws.specs.Tests.{◌<?◌, if◌then◌else◌, or_else, found}
+use Rattle.laws.specs.Tests.{◌<?◌, or_else, found}
 use Rattle.laws.specs.Search.{lowest}
 use Rattle.laws.specs.Sums.{least_of}
 use Rattle.laws.proofs.Tests.{lt_or_ge}

@@ -1,8 +1,8 @@
 -- A round record whose lists are words in the caller's memory: two for each release, four for each entry.
-use Rattle.std.specs.Prelude.{Bool, not, ℕ, ◌+◌, ◌*◌, ◌/◌, ◌%◌, length, take, get_or}
+use Rattle.std.specs.Prelude.{Bool, not, ℕ, ◌+◌, ◌*◌, ◌/◌, ◌%◌, length, take, get_or, if◌then◌else◌}
 use Rattle.std.proofs.Math.Option.{Option, none, some}
 use mathlib.Core.List.{List, [], ◌∷◌, ◌++◌, map, foldr}
-use Rattle.laws.specs.Tests.{◌<?◌, ◌=?◌, if◌then◌else◌, found}
+use Rattle.laws.specs.Tests.{◌<?◌, ◌=?◌, found}
 use Rattle.laws.specs.Search.{lowest}
 use Rattle.laws.specs.Lists.{rows, pad}
 use Rattle.rules.specs.Answer.{Answer, done, refused, refused_by, refuse◌if◌else◌, ◌>>=◌}

@@ -1,7 +1,7 @@
 -- What a node by value stands for, and what the answers say.
-use Rattle.std.specs.Prelude.{◌≡◌, Bool, true, false, ◌&&◌, ◌||◌, [], ℕ, ◌+◌, ◌^◌, ◌≤◌, ◌<◌, max}
+use Rattle.std.specs.Prelude.{◌≡◌, Bool, true, false, ◌&&◌, ◌||◌, [], ℕ, ◌+◌, ◌^◌, ◌≤◌, ◌<◌, max, if◌then◌else◌}
 use Rattle.std.proofs.Math.Option.{Option, none, some}
-use Rattle.laws.specs.Tests.{◌<?◌, ◌≤?◌, ◌=?◌, if◌then◌else◌, maybe}
+use Rattle.laws.specs.Tests.{◌<?◌, ◌≤?◌, ◌=?◌, maybe}
 use Rattle.laws.specs.Lists.{pad}
 use Rattle.rules.specs.Answer.{Answer, done, refused, refused_by, refuse◌if◌else◌, refuse◌naming◌else◌}
 use Rattle.rules.specs.Judge as judges

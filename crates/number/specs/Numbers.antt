@@ -1,6 +1,6 @@
 -- What reading and writing a number answer.
-use Rattle.std.specs.Prelude.{◌&&◌, List, ◌++◌, ℕ, ◌-◌, length, take}
-use Rattle.laws.specs.Tests.{◌<?◌, ◌=?◌, if◌then◌else◌}
+use Rattle.std.specs.Prelude.{◌&&◌, List, ◌++◌, ℕ, ◌-◌, length, take, if◌then◌else◌}
+use Rattle.laws.specs.Tests.{◌<?◌, ◌=?◌}
 use Rattle.rules.specs.Answer.{Answer, done, refused, refused_by}
 use Rattle.rules.specs.Numbers.{Read}
 use Rattle.rules.specs.Written.{Wrote}

@@ -1,7 +1,7 @@
 -- One step of each pass over the entries of a round, each with its class: the rules' own steps, read off the class and the numbers.
-use Rattle.std.specs.Prelude.{Bool, ◌&&◌, ◌||◌, ℕ, max, min, length, get_or}
+use Rattle.std.specs.Prelude.{Bool, ◌&&◌, ◌||◌, ℕ, max, min, length, get_or, if◌then◌else◌}
 use mathlib.Core.List.{List, foldr}
-use Rattle.laws.specs.Tests.{◌=?◌, if◌then◌else◌, maybe}
+use Rattle.laws.specs.Tests.{◌=?◌, maybe}
 use Rattle.laws.specs.Search.{lowest}
 use Rattle.passes.specs.declared.Classed.{Classed}
 use Rattle.passes.specs.declared.Back.{Back}

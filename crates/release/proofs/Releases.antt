@@ -5,6 +5,7 @@
 --     listed-none, listed-bad, listed_more       15 of a list, release by release
 --     listable                                   what 3 and 15 leave of each release: no sum wraps
 --     early-none, early-bad, early-more          16 of a list, release by release
+use Rattle.std.specs.Prelude.{if◌then◌else◌}
 use mathlib.Core.Path.{◌≡◌, refl, sym, ap, ◌∙◌}
 use mathlib.Core.Bool.{Bool, true, false, ◌||◌}
 use mathlib.Core.List.{List, [], ◌∷◌}
@@ -12,7 +13,7 @@ use Prim.Native.Nat.{ℕ, zero, suc, ◌+◌, ◌^◌, ◌≤◌, ◌<◌}
 use native.Mathlib.Omega.{arith}
 use borrow.Author.Tests.{lt-ltb, le-ltb, le-leb, lt-leb, ltb-false, leb-false, eqb-true, not-false}
 use lib.ListN.{length, get_or, drop, drop_of_length-le}
-use Rattle.laws.specs.Tests.{◌<?◌, ◌≤?◌, if◌then◌else◌, any_of}
+use Rattle.laws.specs.Tests.{◌<?◌, ◌≤?◌, any_of}
 use Rattle.laws.specs.Lists.{rows}
 use Rattle.laws.proofs.Tests.{none_of}
 use Rattle.laws.proofs.Lists.{drop_here, length_rows, rows_at}

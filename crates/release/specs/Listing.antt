@@ -1,6 +1,6 @@
 -- What each check of a list of releases answers.
-use Rattle.std.specs.Prelude.{Bool, true, false, [], ◌∷◌, ◌≡◌, ℕ, ◌^◌, ◌<◌}
-use Rattle.laws.specs.Tests.{◌<?◌, ◌≤?◌, if◌then◌else◌, any_of}
+use Rattle.std.specs.Prelude.{Bool, true, false, [], ◌∷◌, ◌≡◌, ℕ, ◌^◌, ◌<◌, if◌then◌else◌}
+use Rattle.laws.specs.Tests.{◌<?◌, ◌≤?◌, any_of}
 use Rattle.rules.specs.Judge.{Release}
 use Rattle.rules.specs.Close.{ill_formed}
 use Rattle.table.specs.declared.Table.{Table}

@@ -1,7 +1,7 @@
 -- What the check of a list against E answers, and E after it.
 use mathlib.Core.List.{List, foldl}
-use Rattle.std.specs.Prelude.{ℕ}
-use Rattle.laws.specs.Tests.{◌<?◌, if◌then◌else◌}
+use Rattle.std.specs.Prelude.{ℕ, if◌then◌else◌}
+use Rattle.laws.specs.Tests.{◌<?◌}
 use Rattle.rules.specs.Table.{Table}
 use Rattle.rules.specs.Judge.{Release}
 use Rattle.rules.specs.Insert.{next_E}

@@ -1,7 +1,7 @@
 -- What a list of lent reports stands for, and what is judged of it at each step.
 use Rattle.std.proofs.Math.Option.{Option, none, some}
-use Rattle.std.specs.Prelude.{List, [], map, ℕ, ◌+◌, ◌^◌, ◌<◌, take, set}
-use Rattle.laws.specs.Tests.{◌≤?◌, if◌then◌else◌}
+use Rattle.std.specs.Prelude.{List, [], map, ℕ, ◌+◌, ◌^◌, ◌<◌, take, set, if◌then◌else◌}
+use Rattle.laws.specs.Tests.{◌≤?◌}
 use Rattle.laws.specs.Lists.{pad}
 use Rattle.rules.specs.Judge as rules
 use Rattle.table.specs.Table.{Checked}

@@ -1,4 +1,5 @@
 -- What is read was written so: the bytes that a reading used are those that its result is written as.
+use Rattle.std.specs.Prelude.{if◌then◌else◌}
 use mathlib.Core.Path.{◌≡◌, refl, sym, ap, subst, ◌∙◌}
 use mathlib.Core.Bool.{Bool, true, false, ◌&&◌}
 use mathlib.Core.Option.{none}
@@ -8,7 +9,7 @@ use native.Mathlib.Nat.{pow-suc}
 use native.Mathlib.Omega.{arith}
 use lib.ListN.{length}
 use borrow.Author.Tests.{ltb-true, ltb-false, lt-ltb, le-ltb, eqb-true, eqb-false, lt-leb}
-use Rattle.laws.specs.Tests.{◌<?◌, ◌=?◌, if◌then◌else◌}
+use Rattle.laws.specs.Tests.{◌<?◌, ◌=?◌}
 use Rattle.rules.specs.Answer.{done, refused, refuse◌if◌else◌}
 use Rattle.rules.specs.Judge.{Round}
 use Rattle.rules.specs.Numbers.{Read, Reads, after, give, groups_after, number, groups, number_bytes}

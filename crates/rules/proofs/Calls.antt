@@ -1,4 +1,5 @@
 -- Each call keeps the invariant of its node: one lemma a call, and a refused one changes nothing.
+use Rattle.std.specs.Prelude.{if◌then◌else◌}
 use mathlib.Core.Path.{◌≡◌, refl, sym, ap, ◌∙◌, subst}
 use mathlib.Core.Bool.{Bool, true, false, ◌&&◌, ◌||◌}
 use mathlib.Core.Logic.{◌⊎◌, inl, inr, ⊎_elim}
@@ -9,7 +10,7 @@ use Prim.Native.Nat.{ℕ, ◌+◌, ◌≤◌, ◌<◌, max}
 use native.Mathlib.Omega.{arith}
 use lib.ListN.{length, get_or, length-append}
 use borrow.Author.Tests.{leb-true, lt-leb}
-use Rattle.laws.specs.Tests.{◌<?◌, ◌≤?◌, if◌then◌else◌}
+use Rattle.laws.specs.Tests.{◌<?◌, ◌≤?◌}
 use Rattle.laws.proofs.Tests.{lt_or_ge, and_yes, none≢some}
 use Rattle.laws.proofs.Lists.{prefix_snoc, prefix_length}
 use Rattle.rules.specs.Answer.{Answer, done, refused, refused_by}

@@ -1,4 +1,5 @@
 -- What judging a round keeps: B ≤ new B ≤ new O ≤ L, O ≤ new O, W ≤ new W, and what a report of class 0 or 5 is.
+use Rattle.std.specs.Prelude.{if◌then◌else◌}
 use mathlib.Core.Path.{◌≡◌, refl}
 use mathlib.Core.Bool.{Bool, true, false, ◌||◌, false≢true}
 use mathlib.Core.Logic.{◌⊎◌, inl, inr}
@@ -8,7 +9,7 @@ use Prim.Native.Nat.{ℕ, zero, suc, ◌+◌, ◌≤◌, max}
 use native.Mathlib.Omega.{arith}
 use lib.ListN.{length, get_or}
 use borrow.Author.Tests.{ltb-false, le-ltb, eqb-true}
-use Rattle.laws.specs.Tests.{◌=?◌, if◌then◌else◌, any_of, found}
+use Rattle.laws.specs.Tests.{◌=?◌, any_of, found}
 use Rattle.laws.specs.Search.{lowest}
 use Rattle.laws.proofs.Tests.{if_cases, none_of, and_yes}
 use Rattle.laws.proofs.Search.{Says, lowest_says}

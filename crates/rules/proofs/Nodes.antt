@@ -1,4 +1,5 @@
 -- What the calls of a node were let through by, what they give, and that each keeps the ranges.
+use Rattle.std.specs.Prelude.{if◌then◌else◌}
 use mathlib.Core.Path.{◌≡◌, refl, sym, subst}
 use mathlib.Core.Bool.{Bool, true, false, not, ◌&&◌, ◌||◌, false≢true, true≢false}
 use mathlib.Core.Option.{Option, none, some}
@@ -6,7 +7,7 @@ use Prim.Native.Nat.{ℕ, ◌+◌, ◌^◌, ◌≤◌, ◌<◌}
 use native.Mathlib.Omega.{arith}
 use lib.ListN.{get_or}
 use borrow.Author.Tests.{ltb-false, leb-true, leb-false, lt-ltb, eqb-true, eqb-false, not-false}
-use Rattle.laws.specs.Tests.{◌<?◌, ◌≤?◌, ◌=?◌, if◌then◌else◌, found, maybe}
+use Rattle.laws.specs.Tests.{◌<?◌, ◌≤?◌, ◌=?◌, found, maybe}
 use Rattle.laws.proofs.Tests.{if_cases, and_yes, not_found, none≢some, some_same}
 use Rattle.rules.specs.Answer.{Answer, done, refuse◌if◌else◌}
 use Rattle.rules.specs.Table.{Table}

@@ -1,5 +1,6 @@
 -- A reading takes the first bytes and looks at no other: what is read from them is read from them before whatever follows.
 -- From a number to a record, each from its parts; and a session's rounds end with its input.
+use Rattle.std.specs.Prelude.{if◌then◌else◌}
 use mathlib.Core.Path.{◌≡◌, refl, sym, ap, ◌∙◌}
 use mathlib.Core.Bool.{Bool, true, false, ◌&&◌}
 use mathlib.Core.List.{List, [], ◌∷◌, ◌++◌, append_assoc}
@@ -7,7 +8,7 @@ use Prim.Native.Nat.{ℕ, zero, suc, ◌+◌, ◌-◌, ◌*◌, ◌≤◌, ◌<�
 use native.Mathlib.Omega.{arith}
 use borrow.Author.Tests.{ne_eqb}
 use lib.ListN.{length, take, length-append}
-use Rattle.laws.specs.Tests.{◌<?◌, ◌=?◌, if◌then◌else◌}
+use Rattle.laws.specs.Tests.{◌<?◌, ◌=?◌}
 use Rattle.rules.specs.Answer.{Answer, done, refused, refused_by, refuse◌if◌else◌}
 use Rattle.rules.specs.Table.{Table}
 use Rattle.rules.specs.Common.{Common}

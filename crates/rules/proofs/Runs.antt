@@ -1,11 +1,12 @@
 -- Runs of a cabinet: every node keeps the invariant, and what a node is later follows what it was.
+use Rattle.std.specs.Prelude.{if◌then◌else◌}
 use mathlib.Core.Path.{refl}
 use mathlib.Core.Bool.{Bool, true, false}
 use mathlib.Core.List.Memᴰ
 use mathlib.Core.List.{List, [], ◌∷◌, ◌++◌, foldl, foldl-append}
 use Prim.Native.Nat.{ℕ}
 use native.Mathlib.Omega.{arith}
-use Rattle.laws.specs.Tests.{◌=?◌, if◌then◌else◌}
+use Rattle.laws.specs.Tests.{◌=?◌}
 use Rattle.laws.proofs.Tests.{none≢some}
 use Rattle.laws.proofs.Lists.{prefix_refl, prefix_append}
 use Rattle.rules.specs.Table.{Table}

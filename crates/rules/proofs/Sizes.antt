@@ -1,4 +1,5 @@
 -- How many bytes a number and a record take.
+use Rattle.std.specs.Prelude.{if◌then◌else◌}
 use mathlib.Core.Path.{◌≡◌, refl}
 use mathlib.Core.List.{List, [], ◌∷◌, foldr}
 use mathlib.Core.Bool.{Bool, true, false}
@@ -8,7 +9,7 @@ use native.Mathlib.Nat.{mul-suc, mul-le-mul_left}
 use native.Mathlib.Omega.{arith}
 use borrow.Author.Tests.{lt-ltb, le-ltb}
 use lib.ListN.{length, length-append}
-use Rattle.laws.specs.Tests.{◌<?◌, if◌then◌else◌}
+use Rattle.laws.specs.Tests.{◌<?◌}
 use Rattle.rules.specs.Judge.{Report, Release, Round}
 use Rattle.rules.specs.Numbers.{groups}
 use Rattle.rules.specs.Written.{entry_numbers, numbers_of, bytes_of, record_bytes}

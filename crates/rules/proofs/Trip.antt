@@ -1,4 +1,5 @@
 -- What is written is read back, whatever follows it: a number, then a thing written as some numbers, a list of such things, a record.
+use Rattle.std.specs.Prelude.{if◌then◌else◌}
 use mathlib.Core.Path.{◌≡◌, refl, ◌∙◌, ap}
 use mathlib.Core.Bool.{Bool, true, false, ◌&&◌}
 use mathlib.Core.Option.{Option, none, some}
@@ -8,7 +9,7 @@ use native.Mathlib.Nat.{pow-suc}
 use native.Mathlib.Omega.{arith}
 use lib.ListN.{length}
 use borrow.Author.Tests.{ltb-true, ltb-false, lt-ltb, le-ltb, ne_eqb, leb-false}
-use Rattle.laws.specs.Tests.{◌<?◌, ◌≤?◌, ◌=?◌, if◌then◌else◌}
+use Rattle.laws.specs.Tests.{◌<?◌, ◌≤?◌, ◌=?◌}
 use Rattle.laws.proofs.Tests.{or_no}
 use Rattle.rules.specs.Answer.{refuse◌if◌else◌}
 use Rattle.rules.specs.Judge.{Report, Release, Round}

@@ -1,7 +1,7 @@
 -- A cabinet of nodes that are asked anything at any time, and what is seen of each from outside.
 use mathlib.Core.List.{List, [], ◌∷◌, ◌++◌, foldl}
-use Rattle.std.specs.Prelude.{ℕ}
-use Rattle.laws.specs.Tests.{◌=?◌, if◌then◌else◌}
+use Rattle.std.specs.Prelude.{ℕ, if◌then◌else◌}
+use Rattle.laws.specs.Tests.{◌=?◌}
 use Rattle.rules.specs.Answer.{Answer, done, refused, refused_by}
 use Rattle.rules.specs.Table.{Table}
 use Rattle.rules.specs.Judge.{Round}

@@ -1,8 +1,8 @@
 -- How a round is judged. "The values of B, W, O, L, E before the round are used."
-use Rattle.std.specs.Prelude.{Bool, ◌&&◌, ◌||◌, ℕ, ◌+◌, ◌-◌, ◌/◌, max, min, length, get_or}
+use Rattle.std.specs.Prelude.{Bool, ◌&&◌, ◌||◌, ℕ, ◌+◌, ◌-◌, ◌/◌, max, min, length, get_or, if◌then◌else◌}
 use Rattle.std.proofs.Math.Option.{Option, none, some}
 use mathlib.Core.List.{List, [], ◌∷◌, foldr}
-use Rattle.laws.specs.Tests.{◌<?◌, ◌≤?◌, ◌=?◌, if◌then◌else◌, any_of, found}
+use Rattle.laws.specs.Tests.{◌<?◌, ◌≤?◌, ◌=?◌, any_of, found}
 use Rattle.laws.specs.Search.{lowest, number_of}
 use Rattle.rules.specs.Table.{Table}
 use Rattle.rules.specs.Common.{Common, L, projection, breaker}

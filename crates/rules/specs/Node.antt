@@ -1,7 +1,7 @@
 -- What a node does.
-use Rattle.std.specs.Prelude.{Bool, true, false, not, ◌&&◌, ◌||◌, ℕ, ◌+◌, max, get_or}
+use Rattle.std.specs.Prelude.{Bool, true, false, not, ◌&&◌, ◌||◌, ℕ, ◌+◌, max, get_or, if◌then◌else◌}
 use Rattle.std.proofs.Math.Option.{Option, none, some}
-use Rattle.laws.specs.Tests.{◌<?◌, ◌≤?◌, ◌=?◌, if◌then◌else◌, found, maybe}
+use Rattle.laws.specs.Tests.{◌<?◌, ◌≤?◌, ◌=?◌, found, maybe}
 use Rattle.rules.specs.Answer.{Answer, done, ◌>>=◌, refuse◌if◌else◌, refuse◌naming◌else◌}
 use Rattle.rules.specs.Table.{Table}
 use Rattle.rules.specs.Common.{Common, fresh, L, job_at, projection, breaker, within_bound}

@@ -1,9 +1,9 @@
 -- The session program: from the bytes of the input to the bytes that it prints.
-use Rattle.std.specs.Prelude.{ℕ, zero, suc, ◌+◌, ◌/◌, ◌%◌, length, take}
+use Rattle.std.specs.Prelude.{ℕ, zero, suc, ◌+◌, ◌/◌, ◌%◌, length, take, if◌then◌else◌}
 use mathlib.Core.List.{List, [], ◌∷◌, ◌++◌, map, foldr}
 use Prim.Native.Char.{code}
 use Prim.Native.String.{String}
-use Rattle.laws.specs.Tests.{◌<?◌, ◌=?◌, if◌then◌else◌}
+use Rattle.laws.specs.Tests.{◌<?◌, ◌=?◌}
 use Rattle.rules.specs.Answer.{Answer, done, refused, refused_by, refuse◌if◌else◌}
 use Rattle.rules.specs.Table.{Task, Table, out_of_range, check}
 use Rattle.rules.specs.Common.{Job, Common, fresh, L}

@@ -1,7 +1,6 @@
 -- What always holds of the states that the rules give back: the ranges that code may rely on, and no more. "Always B ≤ O ≤ L"; "at most 256 are kept".
-use Rattle.std.specs.Prelude.{◌≡◌, ℕ, ◌+◌, ◌^◌, ◌≤◌, ◌<◌, length, get_or}
+use Rattle.std.specs.Prelude.{◌≡◌, ℕ, ◌+◌, ◌^◌, ◌≤◌, ◌<◌, length, get_or, if◌then◌else◌}
 use Rattle.std.proofs.Math.Option.{some}
-use Rattle.laws.specs.Tests.{if◌then◌else◌}
 use Rattle.laws.specs.Sums.{total}
 use Rattle.rules.specs.Table.{Table}
 use Rattle.rules.specs.Common.{Common, no_job, L}

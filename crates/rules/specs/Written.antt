@@ -1,8 +1,8 @@
 -- The written record.
-use Rattle.std.specs.Prelude.{Bool, false, ◌||◌, ℕ, zero, suc, ◌-◌, ◌^◌, length}
+use Rattle.std.specs.Prelude.{Bool, false, ◌||◌, ℕ, zero, suc, ◌-◌, ◌^◌, length, if◌then◌else◌}
 use Rattle.std.proofs.Math.Option.{Option, none, some}
 use mathlib.Core.List.{List, [], ◌∷◌, ◌++◌, foldr}
-use Rattle.laws.specs.Tests.{◌<?◌, ◌≤?◌, ◌=?◌, if◌then◌else◌}
+use Rattle.laws.specs.Tests.{◌<?◌, ◌≤?◌, ◌=?◌}
 use Rattle.laws.specs.Lists.{over}
 use Rattle.rules.specs.Answer.{Answer, done, refused, refused_by, refuse◌if◌else◌}
 use Rattle.rules.specs.Judge.{Report, Release, Round}

@@ -6,6 +6,7 @@
 // A program in Rattle ends with status 0 whatever happens. A session that was carried to its end is told by its last line: `order ..`, or a sole
 // `refused N`. An input that cannot be read, or an output that cannot be written, is told on standard error, and no order line follows it.
 #![tactic(auto)]
+
 ghost use Rattle.std.specs.Prelude.{◌-◌, ◌≤◌, length};
 ghost use Rattle.table.specs.Table.{Checked};
 ghost use Rattle.turn.specs.Gather.{Countable, Printable};

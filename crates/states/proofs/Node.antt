@@ -1,6 +1,7 @@
 -- The words of a node are a written form of it: what is taken is `Given`, its words are those that came in, and no node that was given back is refused.
 --     taken-given, taken-words, given-taken     the three
 --     zero-given                                the first, of what `node_in` answers
+use Rattle.std.specs.Prelude.{if◌then◌else◌}
 use mathlib.Core.Path.{◌≡◌, refl, sym, ap, subst, ◌∙◌}
 use mathlib.Core.Bool.{Bool, true, false, not, false≢true}
 use mathlib.Core.Logic.{◌⊎◌, inl, inr, ⊎_elim}
@@ -10,7 +11,7 @@ use Prim.Native.Nat.{ℕ, ◌+◌, ◌^◌, ◌≤◌, ◌<◌}
 use native.Mathlib.Omega.{arith}
 use borrow.Author.Tests.{ltb-true, leb-true, eqb-true, not-false, lt-ltb, le-leb, eq-eqb}
 use lib.ListN.{length, drop, get_or, length-drop}
-use Rattle.laws.specs.Tests.{◌=?◌, if◌then◌else◌, all_of, found}
+use Rattle.laws.specs.Tests.{◌=?◌, all_of, found}
 use Rattle.laws.specs.Lists.{rows}
 use Rattle.laws.proofs.Tests.{each_of, none≢some, some_same}
 use Rattle.rules.specs.Answer.{done}

@@ -1,4 +1,5 @@
 -- What `Given` says of a common record by value, in its own numbers.
+use Rattle.std.specs.Prelude.{if◌then◌else◌}
 use mathlib.Core.Path.{◌≡◌, refl, sym, ap, ◌∙◌}
 use mathlib.Core.Bool.{Bool, true, false}
 use mathlib.Core.Logic.{⊎_elim}
@@ -8,7 +9,7 @@ use Prim.Native.Nat.{ℕ, ◌+◌, ◌-◌, ◌^◌, ◌≤◌, ◌<◌}
 use native.Mathlib.Omega.{arith}
 use lib.ListN.{length, take, drop, get_or, replicate, length-map, take-append-drop, get_or-map, get_or-eq_default}
 use lib.Seq.{length-take-le, get_or-take, drop_at}
-use Rattle.laws.specs.Tests.{if◌then◌else◌, found, maybe}
+use Rattle.laws.specs.Tests.{found, maybe}
 use Rattle.laws.specs.Lists.{pad}
 use Rattle.laws.specs.Sums.{total}
 use Rattle.laws.proofs.Tests.{lt_or_ge}

@@ -1,6 +1,6 @@
 -- The words of a common record, and which words are those of one.
-use Rattle.std.specs.Prelude.{Bool, not, ◌||◌, List, [], ◌∷◌, ◌++◌, map, ℕ, ◌+◌, ◌^◌, length, take, drop, get_or}
-use Rattle.laws.specs.Tests.{◌<?◌, ◌≤?◌, ◌=?◌, if◌then◌else◌, all_of}
+use Rattle.std.specs.Prelude.{Bool, not, ◌||◌, List, [], ◌∷◌, ◌++◌, map, ℕ, ◌+◌, ◌^◌, length, take, drop, get_or, if◌then◌else◌}
+use Rattle.laws.specs.Tests.{◌<?◌, ◌≤?◌, ◌=?◌, all_of}
 use Rattle.laws.specs.Sums.{total}
 use Rattle.rules.specs.Answer.{Answer, done, refused, refused_by, refuse◌if◌else◌}
 use Rattle.rules.specs.Common.{fresh}

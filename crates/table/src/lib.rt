@@ -1,11 +1,10 @@
 // The task table and its check.
 #![tactic(auto)]
 
-ghost use Rattle.std.specs.Prelude.{◌≡◌, ◌≤◌, ◌<◌, max};
+ghost use Rattle.std.specs.Prelude.{◌≡◌, ◌≤◌, ◌<◌, max, if◌then◌else◌};
 ghost use Rattle.rules.specs.Table.{out_of_range, check};
 ghost use Rattle.table.specs.Table.{table_of};
 ghost use Rattle.table.specs.Check.{answer_of, small_numbers, in_order, keeps_numbers, first_breaking};
-ghost use Rattle.laws.specs.Tests.{if◌then◌else◌};
 
 // "Each task has a longest execution C, least distance between releases T, deadline D and slack S": 64-bit numbers, so that an oversized one
 // is refused and never cut. Of the 64 places the first `count` are the tasks; nothing is asked of the others.

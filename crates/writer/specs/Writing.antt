@@ -1,7 +1,6 @@
 -- A record as numbers in their places, on the way to its bytes.
-use Rattle.std.specs.Prelude.{◌≡◌, ℕ, ◌≤◌, length, take}
+use Rattle.std.specs.Prelude.{◌≡◌, ℕ, ◌≤◌, length, take, if◌then◌else◌}
 use mathlib.Core.List.{List, [], ◌∷◌, foldr}
-use Rattle.laws.specs.Tests.{if◌then◌else◌}
 use Rattle.laws.specs.Lists.{pad}
 use Rattle.rules.specs.Judge as rules
 use Rattle.rules.specs.Written.{bytes_of, too_large}

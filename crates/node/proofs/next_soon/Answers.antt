@@ -1,11 +1,12 @@
 -- Whether the next job starts before the round ends: a lemma for each way out.
+use Rattle.std.specs.Prelude.{if◌then◌else◌}
 use mathlib.Core.Path.{◌≡◌, refl}
 use mathlib.Core.Bool.{Bool, true, false, not, ◌||◌}
 use mathlib.Core.Option.{Option, none, some}
 use Prim.Native.Nat.{ℕ, ◌+◌, ◌^◌, ◌≤◌, ◌<◌}
 use native.Mathlib.Omega.{arith}
 use borrow.Author.Tests.{lt-leb, le-leb}
-use Rattle.laws.specs.Tests.{◌<?◌, ◌≤?◌, if◌then◌else◌, found}
+use Rattle.laws.specs.Tests.{◌<?◌, ◌≤?◌, found}
 use Rattle.rules.specs.Common.{L, projection, breaker}
 use Rattle.rules.proofs.Tables.{fit, timeout_small}
 use Rattle.table.specs.Table.{table_of}

@@ -1,8 +1,8 @@
 -- The run of a report: a lemma for each way out.
+use Rattle.std.specs.Prelude.{if◌then◌else◌}
 use mathlib.Core.Path.{◌≡◌, sym, ap, ◌∙◌}
 use mathlib.Core.Bool.{Bool, true, false, ◌||◌}
 use Prim.Native.Nat.{ℕ}
-use Rattle.laws.specs.Tests.{if◌then◌else◌}
 use Rattle.rules.specs.Node as rules
 use Rattle.table.specs.Table.{table_of}
 use Rattle.table.specs.declared.Table.{Table}

@@ -1,11 +1,11 @@
 -- The loop of `first_broken`: the first of the tasks from i on that breaks a rule, and the largest C of them.
+use Rattle.std.specs.Prelude.{if◌then◌else◌}
 use mathlib.Core.Path.{◌≡◌, sym, ap}
 use mathlib.Core.Bool.{Bool, not}
 use mathlib.Core.List.{List}
 use Prim.Native.Nat.{ℕ, ◌+◌, ◌-◌, ◌≤◌, ◌<◌, max}
 use native.Mathlib.Omega.{arith}
 use lib.ListN.{get_or}
-use Rattle.laws.specs.Tests.{if◌then◌else◌}
 use Rattle.laws.proofs.First.{First, first_is, first_end, first_down}
 use Rattle.table.specs.Check.{keeps_numbers, keeps_at, largest_from, first_breaking}
 use Rattle.table.proofs.Rules.{largest_none, largest_next}

@@ -1,4 +1,5 @@
 -- The record writer, a lemma for each way out.
+use Rattle.std.specs.Prelude.{if◌then◌else◌}
 use mathlib.Core.Path.{◌≡◌, refl, sym, ap, ◌∙◌}
 use mathlib.Core.Bool.{Bool, true, false}
 use mathlib.Core.List.{List}
@@ -7,7 +8,7 @@ use native.Mathlib.Omega.{arith}
 use borrow.Author.Tests.{lt-ltb, le-ltb}
 use lib.ListN.{length}
 use lib.Seq.{sets}
-use Rattle.laws.specs.Tests.{◌<?◌, if◌then◌else◌}
+use Rattle.laws.specs.Tests.{◌<?◌}
 use Rattle.laws.proofs.Lists.{length_rows}
 use Rattle.rules.specs.Answer.{refuse◌if◌else◌}
 use Rattle.rules.specs.Written.{put, numbers_of, bytes_of, too_large, record_bytes, write_record}

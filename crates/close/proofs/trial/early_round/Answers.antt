@@ -1,9 +1,10 @@
+use Rattle.std.specs.Prelude.{if◌then◌else◌}
 use mathlib.Core.Path.{◌≡◌, refl}
 use mathlib.Core.Bool.{Bool, true, false, false≢true}
 use mathlib.Core.Option.{none, some}
 use Prim.Native.Nat.{ℕ, ◌+◌, ◌^◌, ◌<◌}
 use native.Mathlib.Omega.{arith}
-use Rattle.laws.specs.Tests.{◌<?◌, if◌then◌else◌, maybe}
+use Rattle.laws.specs.Tests.{◌<?◌, maybe}
 use Rattle.rules.specs.Close.{too_soon}
 use Rattle.table.specs.declared.Table.{Table}
 use Rattle.table.specs.Table.{table_of, Checked}

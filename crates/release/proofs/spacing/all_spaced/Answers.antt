@@ -1,5 +1,6 @@
 -- `spacing::all_spaced` meets its contract. The invariant: what is left of the list, from the E of those before it, is as early as the whole from the E at
 -- entry, and leaves the same E.
+use Rattle.std.specs.Prelude.{if◌then◌else◌}
 use mathlib.Core.Path.{◌≡◌, refl, sym, ap₂, ◌∙◌}
 use mathlib.Core.Bool.{Bool, true, false}
 use mathlib.Core.List.{List, [], ◌∷◌, foldl}
@@ -7,7 +8,6 @@ use Prim.Native.Nat.{ℕ, ◌+◌, ◌*◌, ◌^◌, ◌≤◌, ◌<◌}
 use native.Mathlib.Omega.{arith}
 use borrow.Author.Rules.{rules}
 use lib.ListN.{length, get_or, set, drop, length-set}
-use Rattle.laws.specs.Tests.{if◌then◌else◌}
 use Rattle.laws.proofs.Lists.{length_of_map}
 use Rattle.rules.specs.Insert.{next_E}
 use Rattle.rules.specs.Close.{too_early}
