@@ -1,25 +1,20 @@
 -- What a turn on the window leaves: bytes that lie in it, a record that can be printed, and at 18 so few bytes that there is room for more.
-use mathlib.Core.Path.{◌≡◌, refl, sym, ap, ◌∙◌}
+use mathlib.Core.Path.{◌≡◌, ap, ◌∙◌}
 use mathlib.Core.Bool.{Bool}
 use mathlib.Core.List.{List}
-use Prim.Native.Nat.{ℕ, ◌+◌, ◌-◌, ◌≤◌, ◌<◌}
+use Prim.Native.Nat.{ℕ, ◌+◌, ◌-◌, ◌≤◌}
 use native.Mathlib.Omega.{arith}
 use lib.ListN.{length, take, drop, length-take, length-drop}
 use Rattle.table.specs.declared.Table.{Table}
 use Rattle.table.specs.Table.{table_of, Checked}
-use Rattle.common.specs.declared.Common.{Common}
-use Rattle.common.specs.Common.{common_of, Given}
+use Rattle.common.specs.Common.{common_of}
 use Rattle.turn.specs.declared.TurnAnswer.TheVariants as answer
 use Rattle.turn.specs.declared.Turn.{Turn}
 use Rattle.turn.specs.Turn.{turn_of, turn_read}
 use Rattle.turn.specs.Gather.{Countable, Printable}
 use Rattle.turn.proofs.Settled.{turn_given, turn_within, turn_short, turn_printable, given_countable}
 use Rattle.session.specs.declared.State.{State}
-use Rattle.session.specs.declared.Window.{Window}
 use Rattle.session.specs.Session.{Held, Few, Ready}
-
-pub few_room : {number bytes : ℕ} → Few number bytes → number ≡ 18 → bytes ≤ 4096
-few_room f e = f.short e
 
 -- the bytes not yet used
 abbrev pub unused : State → List ℕ → List ℕ
@@ -42,7 +37,7 @@ module _ (t : Table) (s : State) (input : List ℕ) (k : Checked t) (v : Ready t
   pub round_asks : r.answer ≡ answer.Closed → (s.kept ≤ 49152) × Printable t.nodes r
   round_asks g = (v.room, turn_printable t s.common (unused s input) p k v.given g)
 
-  pub used_within : s.window.from + r.used ≤ s.window.to
+  used_within : s.window.from + r.used ≤ s.window.to
   used_within = omega (arith, unused_long, turn_within t s.common (unused s input) p, v.held.order)
 
   pub next_ready : (kept : ℕ) (ended going : Bool) → kept ≤ 49152
