@@ -1,21 +1,19 @@
 -- What a turn on the window leaves: bytes that lie in it, a record that can be printed, and at 18 so few bytes that there is room for more.
-use mathlib.Core.Path.{◌≡◌, refl, sym, ap, ◌∙◌}
+use mathlib.Core.Path.{◌≡◌, ap, ◌∙◌}
 use mathlib.Core.Bool.{Bool}
 use mathlib.Core.List.{List}
-use Prim.Native.Nat.{ℕ, ◌+◌, ◌-◌, ◌≤◌, ◌<◌}
+use Prim.Native.Nat.{ℕ, ◌+◌, ◌-◌, ◌≤◌}
 use native.Mathlib.Omega.{arith}
 use lib.ListN.{length, take, drop, length-take, length-drop}
 use Rattle.table.specs.declared.Table.{Table}
 use Rattle.table.specs.Table.{table_of, Checked}
-use Rattle.common.specs.declared.Common.{Common}
-use Rattle.common.specs.Common.{common_of, Given}
+use Rattle.common.specs.Common.{common_of}
 use Rattle.turn.specs.declared.TurnAnswer.TheVariants as answer
 use Rattle.turn.specs.declared.Turn.{Turn}
 use Rattle.turn.specs.Turn.{turn_of, turn_read}
 use Rattle.turn.specs.Gather.{Countable, Printable}
 use Rattle.turn.proofs.Settled.{turn_given, turn_within, turn_short, turn_printable, given_countable}
 use Rattle.session.specs.declared.State.{State}
-use Rattle.session.specs.declared.Window.{Window}
 use Rattle.session.specs.Session.{Held, Few, Ready}
 
 pub few_room : {number bytes : ℕ} → Few number bytes → number ≡ 18 → bytes ≤ 4096

@@ -1,9 +1,8 @@
 -- What the program's functions ask of the window and of the state.
-use Rattle.std.specs.Prelude.{◌≡◌, ℕ, ◌-◌, ◌≤◌}
+use Rattle.std.specs.Prelude.{◌≡◌, ℕ, ◌≤◌}
 use Rattle.table.specs.declared.Table.{Table}
 use Rattle.common.specs.Common.{Given}
 use Rattle.session.specs.declared.State.{State}
-use Rattle.session.specs.declared.Window.{Window}
 
 -- The bytes not yet used lie in a window of so many.
 pub record Held (from to long : ℕ) : Type 0 where

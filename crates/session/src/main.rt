@@ -3,7 +3,7 @@
 // It keeps a window of the input, and reads more of it only when the record at hand needs more bytes: at refusal 18, the one answer that further bytes can
 // change. The lines of the rounds closed so far are written before it waits. So its memory is fixed, and a line appears as soon as its record has come.
 //
-// A program in Rattle ends with status 0 whatever happens. A session that was carried to its end is told by its last line: `order ..`, or a sole
+// The program ends with status 0 whatever happens. A session that was carried to its end is told by its last line: `order ..`, or a sole
 // `refused N`. An input that cannot be read, or an output that cannot be written, is told on standard error, and no order line follows it.
 #![tactic(auto)]
 
@@ -14,7 +14,7 @@ ghost use Rattle.session.specs.Session.{Held, Few, Ready};
 
 use common::Common;
 use intake::{TableAnswer, read_table};
-use libc::{STDIN_FILENO, STDOUT_FILENO};
+use std::io::{Input, Read};
 use table::Table;
 use turn::gather::{gather_order, gather_refused, gather_round};
 use turn::window::shift;
@@ -44,45 +44,53 @@ struct Said {
     written: bool,
 }
 
+// The window of the input, and the lines that are gathered.
+fn large_buffer() -> [u8; 65536] {
+    [0; 65536]
+}
+
 fn line_room() -> [u8; 8192] {
     [0; 8192]
 }
 
 // One read behind the bytes not yet used. These are so few that the read asks for some: an answer of 0 is the end of the input.
-fn read_more(input: &mut [u8], from: usize, to: usize) -> Window
+fn read_more<R: Input + Eprint>(rt: &R, input: &mut [u8], from: usize, to: usize) -> Window
     requires { Held from to (length input.old) × (to - from ≤ 4096) }
     ensures { Held result.from result.to (length input.old) }
 {
     shift(input, from, to);
     let rest = to - from;
-    let got = libc::read(STDIN_FILENO, &mut input[rest..]);
-    if got < 0 {
-        os::fail(b"session: input");
-        return Window {
+    let got = rt.reader().read(&mut input[rest..]);
+    match got {
+        Ok(n) => Window {
             from: 0,
-            to: rest,
-            ended: true,
-            going: false,
-        };
-    }
-    let n = io::count(got, &input[rest..]);
-    Window {
-        from: 0,
-        to: rest + n,
-        ended: n == 0,
-        going: true,
+            to: rest + n,
+            ended: n == 0,
+            going: true,
+        },
+        Err(error) => {
+            let _ = eprintln!(rt; "session: input: {error}");
+            Window {
+                from: 0,
+                to: rest,
+                ended: true,
+                going: false,
+            }
+        }
     }
 }
 
 // The gathered lines, written.
-fn flush(output: &[u8], kept: usize) -> bool
+fn flush<R: Print + Eprint>(rt: &R, output: &[u8], kept: usize) -> bool
     requires { kept ≤ length output.now }
 {
-    let is_written = io::write_all(STDOUT_FILENO, &output[..kept]);
-    if !is_written {
-        os::fail(b"session: output");
+    match rt.write_all(&output[..kept]) {
+        Ok(()) => true,
+        Err(error) => {
+            let _ = eprintln!(rt; "session: output: {error}");
+            false
+        }
     }
-    is_written
 }
 
 fn stopped() -> Window
@@ -97,28 +105,41 @@ fn stopped() -> Window
 }
 
 // The lines so far, and then more input.
-fn wait(input: &mut [u8], output: &mut [u8; 65536], w: Window, kept: usize) -> Window
+fn wait<R: Input + Print + Eprint>(
+    rt: &R,
+    input: &mut [u8],
+    output: &mut [u8; 65536],
+    w: Window,
+    kept: usize,
+) -> Window
     requires { Held w.from w.to (length input.old) × (w.to - w.from ≤ 4096) × (kept ≤ 49152) }
     ensures { Held result.from result.to (length input.old) }
 {
-    let is_written = flush(output, kept);
+    let is_written = flush(rt, output, kept);
     if !is_written {
         return stopped();
     }
-    read_more(input, w.from, w.to)
+    read_more(rt, input, w.from, w.to)
 }
 
 // "followed by the order line"
-fn say_order(output: &mut [u8; 65536], line: &mut [u8; 8192], at: usize, c: Common)
+fn say_order<R: Print + Eprint>(
+    rt: &R,
+    output: &mut [u8; 65536],
+    line: &mut [u8; 8192],
+    at: usize,
+    c: Common,
+)
     requires { (at ≤ 57344) × Countable c }
 {
     let end = gather_order(output, line, at, c);
-    flush(output, end);
+    flush(rt, output, end);
 }
 
 // "A refusal prints `refused N` in place of the round line and stops, followed by the order line." "Input that ends between two records ends the session,
 // with the order line." An 18 before the end of the input is no refusal yet.
-fn refused(
+fn refused<R: Input + Print + Eprint>(
+    rt: &R,
     input: &mut [u8],
     output: &mut [u8; 65536],
     line: &mut [u8; 8192],
@@ -133,20 +154,21 @@ fn refused(
     let ended = w.ended;
     if number == 18 {
         if !ended {
-            return wait(input, output, w, kept);
+            return wait(rt, input, output, w, kept);
         }
         if w.from == w.to {
-            say_order(output, line, kept, c);
+            say_order(rt, output, line, kept, c);
             return stopped();
         }
     }
     let at = gather_refused(output, line, kept, number);
-    say_order(output, line, at, c);
+    say_order(rt, output, line, at, c);
     stopped()
 }
 
 // The line of a round. The buffer is written when it is nearly full.
-fn say_round(
+fn say_round<R: Print + Eprint>(
+    rt: &R,
     output: &mut [u8; 65536],
     line: &mut [u8; 8192],
     x: Turn,
@@ -163,7 +185,7 @@ fn say_round(
             written: true,
         };
     }
-    let is_written = flush(output, end);
+    let is_written = flush(rt, output, end);
     Said {
         kept: 0,
         written: is_written,
@@ -171,7 +193,8 @@ fn say_round(
 }
 
 // One turn: the next record, or more input, or the end.
-fn advance(
+fn advance<R: Input + Print + Eprint>(
+    rt: &R,
     input: &mut [u8],
     output: &mut [u8; 65536],
     line: &mut [u8; 8192],
@@ -189,7 +212,7 @@ fn advance(
     let answer = next.answer;
     match answer {
         TurnAnswer::Refused(number) => {
-            let window = refused(input, output, line, common, w, s.kept, number);
+            let window = refused(rt, input, output, line, common, w, s.kept, number);
             State {
                 common,
                 window,
@@ -197,7 +220,7 @@ fn advance(
             }
         }
         TurnAnswer::Closed => {
-            let said = say_round(output, line, next, t.nodes, s.kept);
+            let said = say_round(rt, output, line, next, t.nodes, s.kept);
             let after = next.common;
             let window = Window {
                 from: from + next.used,
@@ -215,7 +238,14 @@ fn advance(
 }
 
 // "then records back to back". Nothing says that an input ends, so the turns are counted down, from a number that no run uses up.
-fn rounds(input: &mut [u8], output: &mut [u8; 65536], line: &mut [u8; 8192], t: Table, w: Window)
+fn rounds<R: Input + Print + Eprint>(
+    rt: &R,
+    input: &mut [u8],
+    output: &mut [u8; 65536],
+    line: &mut [u8; 8192],
+    t: Table,
+    w: Window,
+)
     requires { Checked t × Held w.from w.to (length input.old) }
 {
     let common = Common::fresh();
@@ -227,7 +257,7 @@ fn rounds(input: &mut [u8], output: &mut [u8; 65536], line: &mut [u8; 8192], t: 
     let mut going = true;
     let mut turns = u64::MAX;
     while turns > 0 && going {
-        s = advance(input, output, line, t, s);
+        s = advance(rt, input, output, line, t, s);
         let window = s.window;
         going = window.going;
         turns -= 1;
@@ -235,7 +265,8 @@ fn rounds(input: &mut [u8], output: &mut [u8; 65536], line: &mut [u8; 8192], t: 
 }
 
 // The table, once its bytes have come, and the rounds. "A refused table, or a byte fault in it, prints only `refused N`".
-fn begin(
+fn begin<R: Input + Print + Eprint>(
+    rt: &R,
     input: &mut [u8],
     output: &mut [u8; 65536],
     line: &mut [u8; 8192],
@@ -256,27 +287,32 @@ fn begin(
                 ended,
                 going: true,
             };
-            rounds(input, output, line, table, w);
+            rounds(rt, input, output, line, table, w);
             stopped()
         }
         TableAnswer::Refused(number) => {
             if number == 18 && !ended {
-                return read_more(input, 0, to);
+                return read_more(rt, input, 0, to);
             }
             let end = gather_refused(output, line, 0, number);
-            flush(output, end);
+            flush(rt, output, end);
             stopped()
         }
     }
 }
 
-fn run(input: &mut [u8], output: &mut [u8; 65536], line: &mut [u8; 8192]) {
+fn run<R: Input + Print + Eprint>(
+    rt: &R,
+    input: &mut [u8],
+    output: &mut [u8; 65536],
+    line: &mut [u8; 8192],
+) {
     let mut to = 0;
     let mut ended = false;
     let mut going = true;
     let mut turns = u64::MAX;
     while turns > 0 && going {
-        let w = begin(input, output, line, to, ended);
+        let w = begin(rt, input, output, line, to, ended);
         to = w.to;
         ended = w.ended;
         going = w.going;
@@ -284,9 +320,9 @@ fn run(input: &mut [u8], output: &mut [u8; 65536], line: &mut [u8; 8192]) {
     }
 }
 
-fn main() {
-    let mut window = io::large_buffer();
-    let mut output = io::large_buffer();
+fn main(rt: HostRuntime) {
+    let mut window = large_buffer();
+    let mut output = large_buffer();
     let mut line = line_room();
-    run(&mut window, &mut output, &mut line);
+    run(&rt, &mut window, &mut output, &mut line);
 }
