@@ -6,15 +6,22 @@
 test:
 	@./.ci/gate
 
+# The session program: target/bin/session, which bin/session starts. No command of rt builds a program and stops there, so this one is run on its stored
+# input too. Without that input it would read the terminal; what rt says comes on standard error.
 session:
-	@rt check session
+	@cd crates/session && rt run < stdin > /dev/null
+	@install -D crates/session/out/session target/bin/session
 
 rust:
 	@cargo build --quiet --offline --release --manifest-path rust/Cargo.toml
 
-# The static library for C and Rust: target/staticlib/libcabinet.a.
+# The static library for C and Rust: target/staticlib/libcabinet.a. rt names it after the crate of the exports, C callers link it as they always did.
+define staticlib
+@cd crates/cabinet_c && rt lib
+@install -D -m 644 crates/cabinet_c/out/libcabinet_c.a target/staticlib/libcabinet.a
+endef
 cabinet:
-	@rt staticlib cabinet
+	$(staticlib)
 
 # What links the library has it proved where a crate has changed since. LIB: a folder with another libcabinet.a; then nothing is proved.
 ifdef LIB
@@ -22,8 +29,8 @@ library:
 else
 LIB = target/staticlib
 library: target/staticlib/libcabinet.a
-target/staticlib/libcabinet.a: crates.txt $(shell find crates -name must-fail -prune -o -type f -print)
-	@rt staticlib cabinet
+target/staticlib/libcabinet.a: crates.txt $(shell find crates \( -name must-fail -o -name out \) -prune -o -type f -print)
+	$(staticlib)
 endif
 linked = CABINET_LIB_DIR=$(abspath $(LIB)) cargo build --quiet --offline --release --manifest-path rust/Cargo.toml
 

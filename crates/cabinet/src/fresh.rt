@@ -14,8 +14,7 @@ use table::{TableCheck, check_table};
 use words::tables::{table_in, table_of};
 
 // 100; 1; 2 with the first task that breaks a rule.
-#[unsafe(no_mangle)]
-pub extern "C" fn cabinet_check_table(table: &[u64]) -> Reply
+pub fn cabinet_check_table(table: &[u64]) -> Reply
     ensures { result ≡ replied (λ _. 0) (check_door table.now) }
 {
     if table.len() != 259 {
@@ -33,8 +32,7 @@ pub extern "C" fn cabinet_check_table(table: &[u64]) -> Reply
 }
 
 // 100.
-#[unsafe(no_mangle)]
-pub extern "C" fn cabinet_fresh_common(common: &mut [u64]) -> Reply
+pub fn cabinet_fresh_common(common: &mut [u64]) -> Reply
     ensures value { result ≡ replied (λ _. 0) (fresh_common_door common.old) }
     ensures common_after { common.new ≡ left stations.words_of common.old (fresh_common_door common.old) }
 {
@@ -47,8 +45,7 @@ pub extern "C" fn cabinet_fresh_common(common: &mut [u64]) -> Reply
 }
 
 // 100, 101; 100; 1.
-#[unsafe(no_mangle)]
-pub extern "C" fn cabinet_fresh_node(table: &[u64], node: &mut [u64], number: u64) -> Reply
+pub fn cabinet_fresh_node(table: &[u64], node: &mut [u64], number: u64) -> Reply
     ensures value { result ≡ replied (λ _. 0) (fresh_node_door table.now node.old number) }
     ensures node_after { node.new ≡ left nodes.words_of node.old (fresh_node_door table.now node.old number) }
 {

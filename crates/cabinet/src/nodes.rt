@@ -14,8 +14,7 @@ use node::{
 use states::nodes::put_node;
 
 // 100, 101; 100, 102; 3 to 9. `value` is the task of the job that starts, or the task that 9 names.
-#[unsafe(no_mangle)]
-pub extern "C" fn cabinet_start(table: &[u64], node: &mut [u64], time: u64) -> Reply
+pub fn cabinet_start(table: &[u64], node: &mut [u64], time: u64) -> Reply
     ensures value { result ≡ replied (λ s. s.named) (start_door table.now node.old time) }
     ensures node_after { node.new ≡ left (λ s. words_of s.node) node.old (start_door table.now node.old time) }
 {
@@ -40,8 +39,7 @@ pub extern "C" fn cabinet_start(table: &[u64], node: &mut [u64], time: u64) -> R
 }
 
 // 100, 101; 100, 102; 3, 4, 5, 10.
-#[unsafe(no_mangle)]
-pub extern "C" fn cabinet_finish(table: &[u64], node: &mut [u64], time: u64) -> Reply
+pub fn cabinet_finish(table: &[u64], node: &mut [u64], time: u64) -> Reply
     ensures value { result ≡ replied (λ _. 0) (finish_door table.now node.old time) }
     ensures node_after { node.new ≡ left words_of node.old (finish_door table.now node.old time) }
 {
@@ -62,8 +60,7 @@ pub extern "C" fn cabinet_finish(table: &[u64], node: &mut [u64], time: u64) -> 
 }
 
 // 100, 101; 100, 102; 3, 4, 5, 11.
-#[unsafe(no_mangle)]
-pub extern "C" fn cabinet_report(table: &[u64], node: &mut [u64], r: u64) -> ReportReply
+pub fn cabinet_report(table: &[u64], node: &mut [u64], r: u64) -> ReportReply
     ensures value { result ≡ reported (λ a. a.sent) (report_door table.now node.old r) }
     ensures node_after { node.new ≡ left (λ a. words_of a.node) node.old (report_door table.now node.old r) }
 {
@@ -100,8 +97,7 @@ fn no_report(number: u64) -> ReportReply
 }
 
 // 100, 101; 100, 102; 100; 100, 103; then 5, 12, 13, 3, 14, 15, 16, 17.
-#[unsafe(no_mangle)]
-pub extern "C" fn cabinet_close(
+pub fn cabinet_close(
     table: &[u64],
     node: &mut [u64],
     r: u64,

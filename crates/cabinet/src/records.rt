@@ -14,8 +14,7 @@ use words::tables::put_table;
 use writer::write_record;
 
 // 18, 19.
-#[unsafe(no_mangle)]
-pub extern "C" fn cabinet_read_number(bytes: &[u8]) -> NumberReply
+pub fn cabinet_read_number(bytes: &[u8]) -> NumberReply
     ensures { result ≡ number_told bytes.now (number bytes.now) }
 {
     match read_number(bytes, 0) {
@@ -43,8 +42,7 @@ fn wrote(written: Written) -> Reply
 }
 
 // 22, 21.
-#[unsafe(no_mangle)]
-pub extern "C" fn cabinet_write_number(bytes: &mut [u8], number: u64) -> Reply
+pub fn cabinet_write_number(bytes: &mut [u8], number: u64) -> Reply
     ensures value { result ≡ replied (λ w. w.bytes) (write_number number bytes.old) }
     ensures bytes_after { bytes.new ≡ left (λ w. w.buffer) bytes.old (write_number number bytes.old) }
 {
@@ -53,13 +51,7 @@ pub extern "C" fn cabinet_write_number(bytes: &mut [u8], number: u64) -> Reply
 }
 
 // 100; 100, 103; then 15, 22, 21.
-#[unsafe(no_mangle)]
-pub extern "C" fn cabinet_write_record(
-    bytes: &mut [u8],
-    r: u64,
-    releases: &[u64],
-    entries: &[u64],
-) -> Reply
+pub fn cabinet_write_record(bytes: &mut [u8], r: u64, releases: &[u64], entries: &[u64]) -> Reply
     ensures value { result ≡ replied (λ w. w.bytes) (write_record_door bytes.old r releases.now entries.now) }
     ensures bytes_after { bytes.new ≡ left (λ w. w.buffer) bytes.old (write_record_door bytes.old r releases.now entries.now) }
 {
@@ -85,12 +77,7 @@ fn no_record(number: u64) -> RecordReply
 }
 
 // 100; 100; then 15, 18, 19, 20, 21 as met.
-#[unsafe(no_mangle)]
-pub extern "C" fn cabinet_read_record(
-    bytes: &[u8],
-    releases: &mut [u64],
-    entries: &mut [u64],
-) -> RecordReply
+pub fn cabinet_read_record(bytes: &[u8], releases: &mut [u64], entries: &mut [u64]) -> RecordReply
     ensures value { result ≡ record_told bytes.now (read_record_door bytes.now releases.old entries.old) }
     ensures releases_after { releases.new ≡ left (releases_over releases.old) releases.old (read_record_door bytes.now releases.old entries.old) }
     ensures entries_after { entries.new ≡ left (entries_over entries.old) entries.old (read_record_door bytes.now releases.old entries.old) }
@@ -123,8 +110,7 @@ pub extern "C" fn cabinet_read_record(
 }
 
 // 100; then 18, 19, 1, 2.
-#[unsafe(no_mangle)]
-pub extern "C" fn cabinet_read_table(bytes: &[u8], table: &mut [u64]) -> Reply
+pub fn cabinet_read_table(bytes: &[u8], table: &mut [u64]) -> Reply
     ensures value { result ≡ used_told bytes.now (read_table_door bytes.now table.old) }
     ensures table_after { table.new ≡ left table_over table.old (read_table_door bytes.now table.old) }
 {

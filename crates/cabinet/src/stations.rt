@@ -12,8 +12,7 @@ use lists::round_in;
 use states::commons::put_common;
 
 // 100, 101; 100, 102; 100; 100, 103; then 3, 14, 15, 16, 17.
-#[unsafe(no_mangle)]
-pub extern "C" fn cabinet_close_station(
+pub fn cabinet_close_station(
     table: &[u64],
     common: &mut [u64],
     r: u64,
@@ -53,8 +52,7 @@ pub extern "C" fn cabinet_close_station(
 }
 
 // 100, 101; 100, 102; 104.
-#[unsafe(no_mangle)]
-pub extern "C" fn cabinet_projection(table: &[u64], common: &[u64], position: u64) -> Reply
+pub fn cabinet_projection(table: &[u64], common: &[u64], position: u64) -> Reply
     ensures { result ≡ replied (λ v. v) (projection_door table.now common.now position) }
 {
     let lent = look_at_common(table, common);
@@ -76,8 +74,7 @@ pub extern "C" fn cabinet_projection(table: &[u64], common: &[u64], position: u6
 }
 
 // 100, 101; 100, 102; 3; 104; 9 with the task.
-#[unsafe(no_mangle)]
-pub extern "C" fn cabinet_bound(table: &[u64], common: &[u64], position: u64, time: u64) -> Reply
+pub fn cabinet_bound(table: &[u64], common: &[u64], position: u64, time: u64) -> Reply
     ensures { result ≡ replied (λ v. v) (bound_door table.now common.now position time) }
 {
     let lent = look_at_common(table, common);
@@ -126,8 +123,7 @@ fn wide(x: u8) -> u64
 }
 
 // 100, 101; 100, 102; 100.
-#[unsafe(no_mangle)]
-pub extern "C" fn cabinet_order(table: &[u64], common: &[u64], order: &mut [u64]) -> Reply
+pub fn cabinet_order(table: &[u64], common: &[u64], order: &mut [u64]) -> Reply
     ensures value { result ≡ replied length (order_door table.now common.now order.old) }
     ensures order_after { order.new ≡ left (order_over order.old) order.old (order_door table.now common.now order.old) }
 {
