@@ -1,17 +1,16 @@
 -- What a door writes is taken again by the next call under the same table: the words of a state are a written form, and no state that this library wrote is refused.
-use mathlib.Core.Path.{◌≡◌, refl, sym, ap, subst, ◌∙◌}
+use mathlib.Core.Path.{◌≡◌, ap, ◌∙◌}
 use mathlib.Core.List.{List}
 use Prim.Native.Nat.{ℕ}
-use Rattle.rules.specs.Answer.{Answer, done, ◌>>=◌}
-use Rattle.rules.specs.Judge as judges
+use Rattle.rules.specs.Answer.{done, ◌>>=◌}
 use Rattle.rules.specs.Node as rules
 use Rattle.rules.specs.Sound.{SoundNode}
 use Rattle.rules.specs.Close.{Closed, close}
 use Rattle.rules.proofs.Answers.{passed_on}
-use Rattle.rules.proofs.Nodes.{fresh_node_sound, start_keeps, finish_keeps, report_keeps, node_close_keeps}
+use Rattle.rules.proofs.Nodes.{start_keeps, finish_keeps, report_keeps, node_close_keeps}
 use Rattle.rules.proofs.Closing.{close_keeps}
 use Rattle.table.specs.declared.Table.{Table}
-use Rattle.table.specs.Table.{table_of, Checked}
+use Rattle.table.specs.Table.{table_of}
 use Rattle.table.proofs.Facts.{checked_fit}
 use Rattle.common.specs.declared.Common.{Common}
 use Rattle.common.specs.Common as commons

@@ -1,32 +1,28 @@
 -- What is asked of a common record at the doors: a projection, the bound, the order as it stands; a lemma for each way out.
-use mathlib.Core.Path.{◌≡◌, refl, sym, ap, subst, ◌∙◌}
-use mathlib.Core.Bool.{Bool, true, false}
-use mathlib.Core.List.{List, map}
+use mathlib.Core.Path.{◌≡◌, sym, ap, ◌∙◌}
+use mathlib.Core.List.{List}
 use mathlib.Core.Option.{Option, none, some}
 use Prim.Native.Nat.{ℕ, ◌+◌, ◌^◌, ◌≤◌, ◌<◌}
 use native.Mathlib.Omega.{arith}
 use borrow.Author.Tests.{lt-ltb, le-ltb, le-leb, lt-leb}
-use lib.ListN.{length, take}
 use Rattle.laws.specs.Tests.{◌<?◌, ◌≤?◌}
-use Rattle.laws.specs.Lists.{over}
-use Rattle.rules.specs.Answer.{Answer, done, refused, refused_by, ◌>>=◌, refuse◌if◌else◌, refuse◌naming◌else◌}
+use Rattle.rules.specs.Answer.{Answer, done, refused, ◌>>=◌, refuse◌if◌else◌, refuse◌naming◌else◌}
 use Rattle.rules.specs.Common.{L, projection, breaker}
 use Rattle.rules.specs.Close.{too_late}
 use Rattle.table.specs.declared.Table.{Table}
-use Rattle.table.specs.Table.{table_of, Checked}
+use Rattle.table.specs.Table.{table_of}
 use Rattle.common.specs.declared.Common.{Common}
 use Rattle.common.specs.declared.Breach.{Breach}
 use Rattle.common.specs.declared.Breach.TheVariants as breach
-use Rattle.common.specs.Common.{common_of, job_of, Given}
+use Rattle.common.specs.Common.{common_of}
 use Rattle.common.specs.Positions.{Projectable, Occupied}
 use Rattle.common.specs.Raw.{breach_of}
 use Rattle.common.proofs.Records.{numbers, length_is}
 use Rattle.cabinet.specs.declared.reply.Reply.{Reply}
 use Rattle.cabinet.specs.declared.looks.Watched.{Watched}
-use Rattle.cabinet.specs.Replies.{replied, left}
+use Rattle.cabinet.specs.Replies.{replied}
 use Rattle.cabinet.specs.Looks.{watched_at, Finds}
-use Rattle.cabinet.specs.Stations.{projection_door, bound_door, order_door, order_over}
-use Rattle.cabinet.proofs.Replies.{halted, carried_out}
+use Rattle.cabinet.specs.Stations.{projection_door, bound_door}
 use Rattle.cabinet.proofs.Watching.{watched_checked, watched_given}
 
 -- a refused or accepted call that leaves nothing

@@ -19,7 +19,7 @@ use Rattle.number.specs.declared.Written.{Written}
 use Rattle.number.specs.declared.Written.TheVariants as written
 use Rattle.number.specs.Numbers.{number_read, written_of, left_from}
 use Rattle.lists.specs.declared.RoundIn.{RoundIn}
-use Rattle.lists.specs.Lists.{round_at, round_cut, told_round}
+use Rattle.lists.specs.Lists.{round_at, told_round}
 use Rattle.lists.proofs.Cut.{write_cut}
 use Rattle.cabinet.specs.declared.reply.Reply.{Reply}
 use Rattle.cabinet.specs.Replies.{replied, wrote_of, left, number_told}

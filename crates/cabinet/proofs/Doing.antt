@@ -1,15 +1,11 @@
 -- A node at the doors: from what was looked at and answered by value to what its doors say and leave; a lemma for each way out.
 use mathlib.Core.Path.{◌≡◌, refl, sym, ap, subst, ◌∙◌}
-use mathlib.Core.Bool.{Bool, true, false}
 use mathlib.Core.List.{List}
-use mathlib.Core.Option.{Option, none, some}
 use Prim.Native.Nat.{ℕ, ◌≤◌, ◌<◌}
 use native.Mathlib.Omega.{arith}
 use lib.ListN.{length}
-use Rattle.rules.specs.Answer.{Answer, done, refused, refused_by, ◌>>=◌, refuse◌if◌else◌, refuse◌naming◌else◌}
-use Rattle.rules.specs.Judge as judges
+use Rattle.rules.specs.Answer.{Answer, done, refused, refused_by, ◌>>=◌}
 use Rattle.rules.specs.Node as rules
-use Rattle.table.specs.declared.Table.{Table}
 use Rattle.table.specs.Table.{table_of, Checked}
 use Rattle.table.proofs.Facts.{ranges}
 use Rattle.round.specs.declared.Report.{Report}
@@ -24,7 +20,7 @@ use Rattle.node.specs.declared.FinishAnswer.TheVariants as finish
 use Rattle.node.specs.declared.Reporting.{Reporting}
 use Rattle.node.specs.declared.ReportAnswer.TheVariants as report
 use Rattle.node.specs.declared.NodeClosing.{NodeClosing}
-use Rattle.node.specs.Node.{node_of, Given, Ours, starting, finishing, reporting, node_closing, not_closed}
+use Rattle.node.specs.Node.{node_of, Given, Ours, starting, finishing, reporting, node_closing}
 use Rattle.lists.specs.declared.RoundIn.{RoundIn}
 use Rattle.lists.specs.Lists.{round_at, told_round}
 use Rattle.lists.proofs.Cut.{node_close_cut}

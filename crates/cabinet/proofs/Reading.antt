@@ -12,7 +12,6 @@ use Rattle.rules.specs.Judge as rules
 use Rattle.rules.specs.Numbers.{Read}
 use Rattle.rules.specs.Written.{read_record}
 use Rattle.rules.specs.Session.{read_table}
-use Rattle.round.specs.declared.Round.{Round}
 use Rattle.round.specs.Round.{releases_of, entries_of}
 use Rattle.words.specs.Table.{table_words}
 use Rattle.lists.specs.Lists.{release_words, entry_words}

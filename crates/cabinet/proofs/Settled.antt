@@ -5,7 +5,6 @@ use mathlib.Core.List.{List}
 use Prim.Native.Nat.{ℕ}
 use lib.ListN.{length}
 use Rattle.rules.specs.Node as rules
-use Rattle.rules.specs.Answer.{Answer}
 use Rattle.rules.specs.Numbers.{number}
 use Rattle.rules.specs.Written.{write_number}
 use Rattle.cabinet.specs.declared.reply.Reply.{Reply}

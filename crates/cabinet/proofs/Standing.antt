@@ -1,45 +1,35 @@
 -- A station at the doors: from what was looked at and answered by value to what its doors say and leave.
-use mathlib.Core.Path.{◌≡◌, refl, sym, ap, subst, ◌∙◌}
-use mathlib.Core.Bool.{Bool, false}
-use mathlib.Core.List.{List, ◌++◌, map}
-use mathlib.Core.Option.{Option, none, some}
-use Prim.Native.Nat.{ℕ, ◌+◌, ◌^◌, ◌≤◌, ◌<◌}
+use mathlib.Core.Path.{◌≡◌, refl, sym, ap, ◌∙◌}
+use mathlib.Core.Bool.{false}
+use mathlib.Core.List.{List}
+use Prim.Native.Nat.{ℕ, ◌+◌, ◌≤◌, ◌<◌}
 use native.Mathlib.Omega.{arith}
-use borrow.Author.Tests.{lt-ltb, le-ltb, le-leb, lt-leb}
-use lib.ListN.{length, take, length-append}
+use lib.ListN.{length, length-append}
 use lib.Seq.{sets}
-use Rattle.rules.specs.Answer.{Answer, done, refused, refused_by, ◌>>=◌, refuse◌if◌else◌, refuse◌naming◌else◌}
-use Rattle.rules.specs.Judge as rules
-use Rattle.rules.specs.Common.{L, projection, breaker}
-use Rattle.rules.specs.Close.{Closed, close, too_late}
+use Rattle.rules.specs.Answer.{Answer, done, refused, refused_by, ◌>>=◌}
+use Rattle.rules.specs.Close.{Closed, close}
 use Rattle.table.specs.declared.Table.{Table}
 use Rattle.table.specs.Table.{table_of, Checked}
 use Rattle.table.proofs.Facts.{ranges}
 use Rattle.round.specs.declared.Round.{Round}
 use Rattle.round.specs.Round.{round_of}
 use Rattle.common.specs.declared.Common.{Common}
-use Rattle.common.specs.declared.Breach.{Breach}
-use Rattle.common.specs.declared.Breach.TheVariants as breach
 use Rattle.common.specs.Common.{common_of, Given}
-use Rattle.common.specs.Positions.{Projectable, Occupied}
-use Rattle.common.specs.Raw.{breach_of}
-use Rattle.common.proofs.Records.{numbers, length_is}
+use Rattle.common.proofs.Records.{numbers}
 use Rattle.close.specs.declared.Closing.{Closing}
 use Rattle.close.specs.declared.Outcome.TheVariants as outcome
 use Rattle.close.specs.Close as closes
 use Rattle.close.proofs.Settled.{reply_given}
 use Rattle.lists.specs.declared.RoundIn.{RoundIn}
-use Rattle.lists.specs.Lists.{round_at, round_cut, told_round}
+use Rattle.lists.specs.Lists.{round_at, told_round}
 use Rattle.lists.proofs.Cut.{close_cut}
 use Rattle.states.specs.Common.{common_words}
-use Rattle.states.proofs.Common.{Taken, taken}
-use Rattle.cabinet.specs.declared.reply.Reply.{Reply}
 use Rattle.cabinet.specs.declared.reply.CloseReply.{CloseReply}
 use Rattle.cabinet.specs.declared.looks.Watched.{Watched}
-use Rattle.cabinet.specs.Replies.{bit, replied, left, no_close, closing}
+use Rattle.cabinet.specs.Replies.{bit, left, no_close, closing}
 use Rattle.cabinet.specs.Looks.{watched_at, Finds}
-use Rattle.cabinet.specs.Stations.{close_station_door, projection_door, bound_door, words_of}
-use Rattle.cabinet.proofs.Replies.{close_halted, close_done, written_whole}
+use Rattle.cabinet.specs.Stations.{close_station_door, words_of}
+use Rattle.cabinet.proofs.Replies.{close_halted, written_whole}
 use Rattle.cabinet.proofs.Rounds.{round_found, round_stopped}
 use Rattle.cabinet.proofs.Watching.{watched_checked, watched_given, watched_long}
 

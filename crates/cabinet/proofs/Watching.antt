@@ -6,7 +6,7 @@ use Prim.Native.Nat.{ℕ, ◌≤◌, ◌<◌}
 use native.Mathlib.Omega.{arith}
 use lib.ListN.{length}
 use Rattle.laws.specs.Tests.{◌=?◌}
-use Rattle.rules.specs.Answer.{Answer, done, refused, refused_by, ◌>>=◌}
+use Rattle.rules.specs.Answer.{Answer, done, refused, ◌>>=◌}
 use Rattle.rules.specs.Table as rules
 use Rattle.rules.proofs.Answers.{same_done, passed_on}
 use Rattle.table.specs.declared.Table.{Table}

@@ -2,7 +2,7 @@
 use Rattle.std.specs.Prelude.{not, List, ℕ, ◌/◌, ◌%◌, length}
 use Rattle.laws.specs.Tests.{◌=?◌}
 use Rattle.laws.specs.Lists.{over}
-use Rattle.rules.specs.Answer.{Answer, done, ◌>>=◌, refuse◌if◌else◌}
+use Rattle.rules.specs.Answer.{Answer, ◌>>=◌, refuse◌if◌else◌}
 use Rattle.rules.specs.Table as rules
 use Rattle.rules.specs.Judge.{Round}
 use Rattle.rules.specs.Numbers.{Read}

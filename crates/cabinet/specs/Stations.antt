@@ -1,5 +1,5 @@
 -- What is done with a common record at the doors, and asked of it: on the words of a table and of a record.
-use Rattle.std.specs.Prelude.{not, List, map, ℕ, length}
+use Rattle.std.specs.Prelude.{List, map, ℕ, length}
 use Rattle.laws.specs.Tests.{◌<?◌, ◌≤?◌}
 use Rattle.laws.specs.Lists.{over}
 use Rattle.rules.specs.Answer.{Answer, done, ◌>>=◌, refuse◌if◌else◌, refuse◌naming◌else◌}

@@ -1,5 +1,4 @@
 -- `cabinet_check_table` meets its contract: the length, then what the check answers; a lemma for each way out.
-use borrow.Author.Rules.{rules}
 use Rattle.cabinet.proofs.Beginning.{check_unfit, check_passes, check_out_of_range, check_broken}
 use Rattle.cabinet.proofs.fresh.cabinet_check_table.Goals as goal
 

@@ -1,5 +1,4 @@
 -- `cabinet_fresh_common` meets its contract: the length, then all words written anew.
-use borrow.Author.Rules.{rules}
 use Rattle.cabinet.proofs.Beginning.{common_unfit, common_begins}
 use Rattle.cabinet.proofs.fresh.cabinet_fresh_common.Goals as goal
 

@@ -1,5 +1,4 @@
 -- `cabinet_fresh_node` meets its contract: the table looked at, the length, then the node made; a lemma for each way out.
-use borrow.Author.Rules.{rules}
 use Rattle.cabinet.proofs.Beginning.{node_stopped, node_unfit, node_refused, node_made}
 use Rattle.cabinet.proofs.fresh.cabinet_fresh_node.Goals as goal
 

@@ -1,5 +1,4 @@
 -- `look_at_common` meets its contract: the table, then the common record under it.
-use borrow.Author.Rules.{rules}
 use Rattle.cabinet.proofs.Watching.{table_checked, no_common, some_common}
 use Rattle.cabinet.proofs.looks.look_at_common.Goals as goal
 

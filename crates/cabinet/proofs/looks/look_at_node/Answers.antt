@@ -1,5 +1,4 @@
 -- `look_at_node` meets its contract: the table, then the node under it.
-use borrow.Author.Rules.{rules}
 use Rattle.cabinet.proofs.Watching.{table_checked, no_node, some_node}
 use Rattle.cabinet.proofs.looks.look_at_node.Goals as goal
 

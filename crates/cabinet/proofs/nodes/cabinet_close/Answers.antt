@@ -1,5 +1,4 @@
 -- `cabinet_close` meets its contract: what is lent looked at, the lists looked at, then the close; a lemma for each way out.
-use borrow.Author.Rules.{rules}
 use Rattle.cabinet.proofs.Doing.{held_asked, held_room, close_stopped, close_unlisted, close_refused, close_closed}
 use Rattle.cabinet.proofs.nodes.cabinet_close.Goals as goal
 

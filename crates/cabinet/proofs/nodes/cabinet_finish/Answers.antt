@@ -1,5 +1,4 @@
 -- `cabinet_finish` meets its contract: what is lent looked at, then the finish; a lemma for each way out.
-use borrow.Author.Rules.{rules}
 use Rattle.cabinet.proofs.Doing.{held_ours, held_room, finish_stopped, finish_done, finish_refused}
 use Rattle.cabinet.proofs.nodes.cabinet_finish.Goals as goal
 

@@ -1,5 +1,4 @@
 -- `cabinet_report` meets its contract: what is lent looked at, then the report; a lemma for each way out.
-use borrow.Author.Rules.{rules}
 use Rattle.cabinet.proofs.Doing.{held_asked, held_room, report_stopped, report_refused, report_sends}
 use Rattle.cabinet.proofs.nodes.cabinet_report.Goals as goal
 

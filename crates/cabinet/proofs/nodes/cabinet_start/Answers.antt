@@ -1,5 +1,4 @@
 -- `cabinet_start` meets its contract: what is lent looked at, then the start; a lemma for each way out.
-use borrow.Author.Rules.{rules}
 use Rattle.cabinet.proofs.Doing.{held_asked, held_room, start_stopped, start_refused, start_waits, start_starts}
 use Rattle.cabinet.proofs.nodes.cabinet_start.Goals as goal
 

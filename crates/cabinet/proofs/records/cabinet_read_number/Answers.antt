@@ -1,5 +1,4 @@
 -- `cabinet_read_number` meets its contract: what the reader told, as a reply.
-use borrow.Author.Rules.{rules}
 use Rattle.cabinet.proofs.Bytes.{number_said, number_not_said}
 use Rattle.cabinet.proofs.records.cabinet_read_number.Goals as goal
 

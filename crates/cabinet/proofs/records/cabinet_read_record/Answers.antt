@@ -1,5 +1,4 @@
 -- `cabinet_read_record` meets its contract: both lengths, then what the reader told, put over what was lent; a lemma for each way out.
-use borrow.Author.Rules.{rules}
 use Rattle.cabinet.proofs.Reading.{releases_unfit, entries_unfit, releases_fit, entries_fit, record_not_read, record_was_read}
 use Rattle.cabinet.proofs.records.cabinet_read_record.Goals as goal
 

@@ -1,5 +1,4 @@
 -- `cabinet_read_table` meets its contract: the length, then what the reader told; a lemma for each way out.
-use borrow.Author.Rules.{rules}
 use Rattle.cabinet.proofs.Reading.{table_unfit, table_not_read, table_was_read}
 use Rattle.cabinet.proofs.records.cabinet_read_table.Goals as goal
 

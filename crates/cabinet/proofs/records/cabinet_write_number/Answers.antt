@@ -1,5 +1,4 @@
 -- `cabinet_write_number` meets its contract: what the writer told and left.
-use borrow.Author.Rules.{rules}
 use Rattle.cabinet.proofs.Bytes.{number_wrote}
 use Rattle.cabinet.proofs.records.cabinet_write_number.Goals as goal
 

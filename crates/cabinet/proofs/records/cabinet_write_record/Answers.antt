@@ -1,5 +1,4 @@
 -- `cabinet_write_record` meets its contract: the lists looked at, then what the writer told and left.
-use borrow.Author.Rules.{rules}
 use Rattle.cabinet.proofs.Bytes.{record_not_listed, record_wrote}
 use Rattle.cabinet.proofs.records.cabinet_write_record.Goals as goal
 

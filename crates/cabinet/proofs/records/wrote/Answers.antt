@@ -1,5 +1,4 @@
 -- `wrote` meets its contract: what a writing told, as a reply.
-use borrow.Author.Rules.{rules}
 use Rattle.cabinet.proofs.Bytes.{wrote_bytes, wrote_none}
 use Rattle.cabinet.proofs.records.wrote.Goals as goal
 

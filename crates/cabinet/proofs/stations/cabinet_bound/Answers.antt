@@ -1,5 +1,4 @@
 -- `cabinet_bound` meets its contract: what is lent looked at, then the time and the position; a lemma for each way out.
-use borrow.Author.Rules.{rules}
 use Rattle.cabinet.proofs.Asking.{kept_small, bound_stopped, bound_late, bound_below, bound_beyond, bound_asked, bound_met, bound_broken}
 use Rattle.cabinet.proofs.stations.cabinet_bound.Goals as goal
 

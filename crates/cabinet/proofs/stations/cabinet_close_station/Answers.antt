@@ -1,5 +1,4 @@
 -- `cabinet_close_station` meets its contract: what is lent looked at, the lists looked at, then the close; a lemma for each way out.
-use borrow.Author.Rules.{rules}
 use Rattle.cabinet.proofs.Standing.{station_stopped, station_ready, station_unlisted, station_room, station_refused, station_closed}
 use Rattle.cabinet.proofs.stations.cabinet_close_station.Goals as goal
 

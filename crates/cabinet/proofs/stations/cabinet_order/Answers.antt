@@ -1,5 +1,4 @@
 -- `cabinet_order` meets its contract: what is lent looked at, the room, then the tasks put in; a lemma for each way out.
-use borrow.Author.Rules.{rules}
 use Rattle.cabinet.proofs.Ordering.{order_stopped, order_short, order_fits, order_told}
 use Rattle.cabinet.proofs.stations.cabinet_order.Goals as goal
 

@@ -1,5 +1,4 @@
 -- `cabinet_projection` meets its contract: what is lent looked at, then the position; a lemma for each way out.
-use borrow.Author.Rules.{rules}
 use Rattle.cabinet.proofs.Asking.{kept_small, projection_stopped, projection_below, projection_beyond, projection_asked, projection_there}
 use Rattle.cabinet.proofs.stations.cabinet_projection.Goals as goal
 

@@ -1,8 +1,5 @@
 -- The first tasks copied in, one a turn.
-use Prim.Native.Nat.{◌-◌}
 use borrow.Author.Rules.{rules}
-use lib.ListN.{take}
-use Rattle.words.proofs.Copies.{Putting}
 use Rattle.cabinet.proofs.Ordering.{order_start, order_next, order_end}
 use Rattle.cabinet.proofs.stations.put_order.Goals as goal
 

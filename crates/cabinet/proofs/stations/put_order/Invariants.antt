@@ -1,9 +1,7 @@
 -- The first tasks copied in, one a turn.
 use Prim.Native.Nat.{◌-◌}
-use borrow.Author.Rules.{rules}
 use lib.ListN.{take}
 use Rattle.words.proofs.Copies.{Putting}
-use Rattle.cabinet.proofs.Ordering.{order_start, order_next, order_end}
 use Rattle.cabinet.proofs.stations.put_order.Given as goal
 
 abbrev pub invariant-loop-i : goal.invariant-loop-i
