@@ -1,6 +1,5 @@
--- What a door says and leaves, by what was answered.
-use mathlib.Core.Path.{◌≡◌, sym, ap, ◌∙◌}
-use mathlib.Core.Bool.{Bool}
+-- What a door says and leaves, by what the call beside it answered: a value in another form, or a refusal without the task that it may name.
+use mathlib.Core.Path.{◌≡◌, refl, sym, ap, ◌∙◌}
 use mathlib.Core.List.{List, ◌++◌, append-nil}
 use Prim.Native.Nat.{ℕ}
 use native.Mathlib.Omega.{arith}
@@ -8,29 +7,27 @@ use lib.ListN.{length, drop_of_length-le}
 use lib.Seq.{sets}
 use Rattle.laws.proofs.Runs.{sets_front}
 use Rattle.rules.specs.Answer.{Answer, done, refused, refused_by}
-use Rattle.rules.specs.Close.{Verdict}
-use Rattle.cabinet.specs.declared.reply.Reply.{Reply}
-use Rattle.cabinet.specs.declared.reply.CloseReply.{CloseReply}
-use Rattle.cabinet.specs.Replies.{replied, left, no_close, closing}
+use Rattle.refusal.specs.Refusal.{told_as}
+use Rattle.refusal.proofs.Answers.{done_same, done_refused}
+use Rattle.cabinet.specs.Replies.{left}
 
-module _ {A : Type 0} (value : A → ℕ) (anew : A → List ℕ) (lent : List ℕ) {a : Answer A} where
-  pub halted : {n : ℕ} {s : Reply} → a ≡ refused n → s ≡ record { refusal = n; value = 0 } → (s ≡ replied value a) × (lent ≡ left anew lent a)
-  halted e p = (p ∙ ap (replied value) (sym e), ap (left anew lent) (sym e))
+-- the same told on
+pub retold : {A B C : Type 0} (form : A → B) (f : B → C) (a : Answer A) {r : Answer B} → r ≡ told_as form a → told_as f r ≡ told_as (λ x. f (form x)) a
+retold form f (done x) e = ap (told_as f) e
+retold form f (refused n) e = ap (told_as f) e
+retold form f (refused_by n i) e = ap (told_as f) e
 
-  pub named : {n i : ℕ} {s : Reply} → a ≡ refused_by n i → s ≡ record { refusal = n; value = i } → (s ≡ replied value a) × (lent ≡ left anew lent a)
-  named e p = (p ∙ ap (replied value) (sym e), ap (left anew lent) (sym e))
+module _ {A B : Type 0} (form : A → B) where
+  -- what was lent stays, or is written anew
+  pub kept : (anew : A → List ℕ) (lent : List ℕ) (a : Answer A) {n : ℕ} → refused n ≡ told_as form a → lent ≡ left anew lent a
+  kept anew lent (done x) e = absurd (done_refused (sym e))
+  kept anew lent (refused n) e = refl
+  kept anew lent (refused_by n i) e = refl
 
-  pub carried_out : {x : A} {s : Reply} {after : List ℕ} → a ≡ done x → s ≡ record { refusal = 0; value = value x } → after ≡ anew x
-      → (s ≡ replied value a) × (after ≡ left anew lent a)
-  carried_out e p q = (p ∙ ap (replied value) (sym e), q ∙ ap (left anew lent) (sym e))
-
-module _ {A : Type 0} (reply : A → Verdict) (behind : A → Bool) (anew : A → List ℕ) (lent : List ℕ) {a : Answer A} where
-  pub close_halted : {n : ℕ} {s : CloseReply} → a ≡ refused n → s ≡ no_close n → (s ≡ closing reply behind a) × (lent ≡ left anew lent a)
-  close_halted e p = (p ∙ ap (closing reply behind) (sym e), ap (left anew lent) (sym e))
-
-  pub close_done : {x : A} {s : CloseReply} {after : List ℕ} → a ≡ done x → s ≡ closing reply behind (done x) → after ≡ anew x
-      → (s ≡ closing reply behind a) × (after ≡ left anew lent a)
-  close_done e p q = (p ∙ ap (closing reply behind) (sym e), q ∙ ap (left anew lent) (sym e))
+  pub put : (anew : B → List ℕ) (lent : List ℕ) (a : Answer A) {x : B} → done x ≡ told_as form a → anew x ≡ left (λ k. anew (form k)) lent a
+  put anew lent (done k) e = ap anew (done_same e)
+  put anew lent (refused n) e = absurd (done_refused e)
+  put anew lent (refused_by n i) e = absurd (done_refused e)
 
 -- a lent array written whole
 pub written_whole : (lent words : List ℕ) {after : List ℕ} → length lent ≡ length words → after ≡ sets lent 0 words → after ≡ words

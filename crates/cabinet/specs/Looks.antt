@@ -1,6 +1,7 @@
 -- The table and the state that a call is lent: looked at from left to right, each first for its length, then for what it holds.
-use Rattle.std.specs.Prelude.{◌≡◌, List, ℕ, ◌≤◌, ◌<◌}
-use Rattle.rules.specs.Answer.{Answer, done, refused, ◌>>=◌}
+use Rattle.std.specs.Prelude.{List, ℕ}
+use Rattle.rules.specs.Answer.{Answer, done, ◌>>=◌}
+use Rattle.refusal.specs.Refusal.{told_as}
 use Rattle.table.specs.declared.Table.{Table}
 use Rattle.common.specs.declared.Common.{Common}
 use Rattle.node.specs.declared.Node.{Node}
@@ -16,13 +17,16 @@ pub record Under (A : Type 0) : Type 0 where
 abbrev pub under : {A : Type 0} → Table → A → Answer (Under A)
 under t x = done (record { table = t; state = x })
 
-unfoldable pub watched_at : List ℕ → List ℕ → Answer (Under Common)
-watched_at ts cs = table_at ts >>= λ t. common_at t cs >>= under t
+-- A state in words under a table in words.
+unfoldable pub looked_at : {A : Type 0} → (Table → List ℕ → Answer A) → List ℕ → List ℕ → Answer (Under A)
+looked_at at ts ws = table_at ts >>= λ t. at t ws >>= under t
 
-unfoldable pub held_at : List ℕ → List ℕ → Answer (Under Node)
-held_at ts ns = table_at ts >>= λ t. node_at t ns >>= under t
+abbrev pub watched_at : List ℕ → List ℕ → Answer (Under Common)
+watched_at = looked_at common_at
 
--- By value: what was found, or the number of the refusal.
-pub record Finds {A : Type 0} (a : Answer (Under A)) (refusal : ℕ) (t : Table) (x : A) : Type 0 where
-  pub found : refusal ≤ 0 → a ≡ under t x
-  pub stopped : 0 < refusal → a ≡ refused refusal
+abbrev pub held_at : List ℕ → List ℕ → Answer (Under Node)
+held_at = looked_at node_at
+
+-- By value: both.
+abbrev pub looked : {A : Type 0} → Answer (Under A) → Answer (Table × A)
+looked = told_as (λ h. (h.table, h.state))

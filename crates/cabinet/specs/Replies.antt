@@ -1,20 +1,17 @@
 -- What the doors answer, and what they leave in what was lent.
-use Rattle.std.specs.Prelude.{Bool, List, [], ℕ, ◌-◌, length, if◌then◌else◌}
+use Rattle.std.specs.Prelude.{Bool, List, [], ℕ, ◌-◌, length}
+use Rattle.std.specs.Int.{from_bool}
 use Rattle.laws.specs.Lists.{pad}
 use Rattle.rules.specs.Answer.{Answer, done, refused, refused_by}
 use Rattle.rules.specs.Judge as rounds
 use Rattle.rules.specs.Close.{Verdict}
 use Rattle.rules.specs.Numbers.{Read}
-use Rattle.number.specs.declared.Written.{Written}
-use Rattle.number.specs.declared.Written.TheVariants as written
+use Rattle.refusal.specs.Refusal.{told_as}
 use Rattle.cabinet.specs.declared.reply.Reply.{Reply}
 use Rattle.cabinet.specs.declared.reply.NumberReply.{NumberReply}
 use Rattle.cabinet.specs.declared.reply.ReportReply.{ReportReply}
 use Rattle.cabinet.specs.declared.reply.CloseReply.{CloseReply}
 use Rattle.cabinet.specs.declared.reply.RecordReply.{RecordReply}
-
-abbrev pub bit : Bool → ℕ
-bit b = if b then 1 else 0
 
 -- What was asked for, as a number; or the refusal, with the task that 2 and 9 name.
 abbrev pub replied : {A : Type 0} → (A → ℕ) → Answer A → Reply
@@ -22,10 +19,11 @@ replied value (done a) = record { refusal = 0; value = value a }
 replied value (refused n) = record { refusal = n; value = 0 }
 replied value (refused_by n i) = record { refusal = n; value = i }
 
--- What a writing told by value, as a reply.
-abbrev pub wrote_of : Written → Reply
-wrote_of (written.Bytes k) = record { refusal = 0; value = k }
-wrote_of (written.Refused n) = record { refusal = n; value = 0 }
+-- The same answer of another value; a task that a refusal names stays.
+abbrev pub named : {A B : Type 0} → (A → B) → Answer A → Answer B
+named value (done a) = done (value a)
+named value (refused n) = refused n
+named value (refused_by n i) = refused_by n i
 
 -- A lent array after a call: "A refusal gives its number and changes nothing, in any record or lent buffer".
 abbrev pub left : {A : Type 0} → (A → List ℕ) → List ℕ → Answer A → List ℕ
@@ -46,8 +44,8 @@ abbrev pub closing : {A : Type 0} → (A → Verdict) → (A → Bool) → Answe
 closing reply behind (done a) = record {
   refusal = 0;
   back = (reply a).back;
-  majority = bit (reply a).notice;
-  left = bit (behind a);
+  majority = from_bool (reply a).notice;
+  left = from_bool (behind a);
   classes = (reply a).classes;
 }
 closing reply behind (refused n) = no_close n
@@ -60,6 +58,9 @@ number_told s (refused n) = record { refusal = n; value = 0; used = 0 }
 number_told s (refused_by n i) = record { refusal = n; value = 0; used = 0 }
 
 -- A table that was read is told by the bytes that it took; the task that 2 names is not told here.
+abbrev pub used_of : {A : Type 0} → List ℕ → Answer (Read A) → Answer ℕ
+used_of s = told_as (λ x. length s - length x.rest)
+
 abbrev pub used_told : {A : Type 0} → List ℕ → Answer (Read A) → Reply
 used_told s (done x) = record { refusal = 0; value = length s - length x.rest }
 used_told s (refused n) = record { refusal = n; value = 0 }

@@ -1,72 +1,53 @@
 // The table and the state that a call is lent, looked at from left to right: each first for its length, then for what it holds.
-ghost use Rattle.cabinet.specs.Looks.{watched_at, held_at, Finds};
+ghost use Rattle.std.specs.Prelude.{◌≡◌, ℕ, List};
+ghost use Rattle.rules.specs.Answer.{Answer};
+ghost use Rattle.refusal.specs.Refusal.{answer_of};
+ghost use Rattle.table.specs.declared.Table.{Table};
+ghost use Rattle.table.specs.Table.{Checked};
+ghost use Rattle.states.specs.Common.{common_at};
+ghost use Rattle.states.specs.Node.{node_at};
+ghost use Rattle.cabinet.specs.Looks.{looked_at, looked};
 
 use common::Common;
-use node::{Node, fresh_node};
+use node::Node;
+use refusal::Refusal;
 use states::commons::common_in;
 use states::nodes::node_in;
 use table::Table;
 use words::tables::table_in;
 
-// A common record with its table; beside a refusal they mean nothing.
-#[derive(Clone, Copy)]
-pub struct Watched {
-    pub refusal: u64,
-    pub table: Table,
-    pub common: Common,
+// A state that stands in words: a common record, or a node.
+pub(crate) trait State: Copy {
+    ghost state_at: { Table → List ℕ → Answer Self };
+
+    fn read(t: Table, words: &[u64]) -> Result<Self, Refusal>
+        requires { Checked t }
+        ensures { answer_of result ≡ state_at t words.now };
 }
 
-// A node with its table; beside a refusal they mean nothing.
-#[derive(Clone, Copy)]
-pub struct Held {
-    pub refusal: u64,
-    pub table: Table,
-    pub node: Node,
+impl State for Common {
+    ghost state_at = { common_at };
+
+    fn read(t: Table, words: &[u64]) -> Result<Common, Refusal> {
+        common_in(t, words)
+    }
 }
 
-pub(crate) fn look_at_common(table: &[u64], common: &[u64]) -> Watched
-    ensures { Finds (watched_at table.now common.now) result.refusal result.table result.common }
+impl State for Node {
+    ghost state_at = { node_at };
+
+    fn read(t: Table, words: &[u64]) -> Result<Node, Refusal> {
+        node_in(t, words)
+    }
+}
+
+// The table first, then the state under it. A call of its own also in the program, so that what it needs of the stack is given back before a step begins: no call
+// may need 32 KiB.
+#[inline(never)]
+pub(crate) fn look_at<S: State>(table: &[u64], state: &[u64]) -> Result<(Table, S), Refusal>
+    ensures { answer_of result ≡ looked (looked_at S.state_at table.now state.now) }
 {
-    let first = table_in(table);
-    let refusal = first.refusal;
-    let tab = first.table;
-    if 0 < refusal {
-        let nothing = Common::fresh();
-        return Watched {
-            refusal,
-            table: tab,
-            common: nothing,
-        };
-    }
-    let second = common_in(tab, common);
-    let own = second.common;
-    Watched {
-        refusal: second.refusal,
-        table: tab,
-        common: own,
-    }
-}
-
-pub(crate) fn look_at_node(table: &[u64], node: &[u64]) -> Held
-    ensures { Finds (held_at table.now node.now) result.refusal result.table result.node }
-{
-    let first = table_in(table);
-    let refusal = first.refusal;
-    let tab = first.table;
-    if 0 < refusal {
-        let none = fresh_node(tab, 0);
-        let nobody = none.node;
-        return Held {
-            refusal,
-            table: tab,
-            node: nobody,
-        };
-    }
-    let second = node_in(tab, node);
-    let own = second.node;
-    Held {
-        refusal: second.refusal,
-        table: tab,
-        node: own,
-    }
+    let table = table_in(table)?;
+    let state = S::read(table, state)?;
+    Ok((table, state))
 }

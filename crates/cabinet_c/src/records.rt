@@ -2,7 +2,7 @@
 ghost use Rattle.std.specs.Prelude.{◌≡◌};
 ghost use Rattle.rules.specs.Numbers.{number};
 ghost use Rattle.rules.specs.Written.{write_number};
-ghost use Rattle.cabinet.specs.Replies.{replied, wrote_of, left, number_told, used_told, record_told};
+ghost use Rattle.cabinet.specs.Replies.{replied, left, number_told, used_told, record_told};
 ghost use Rattle.cabinet.specs.Records.{write_record_door, read_record_door, releases_over, entries_over, read_table_door, table_over};
 
 use cabinet::reply::{NumberReply, RecordReply, Reply};

@@ -1,10 +1,10 @@
 -- The record after a round, from the arrays to the rules.
 use mathlib.Core.Path.{◌≡◌, refl, sym, ap, ◌∙◌}
-use mathlib.Core.Bool.{true}
 use mathlib.Core.List.{List, [], ◌∷◌, map}
 use Prim.Native.Nat.{ℕ, ◌+◌, ◌-◌}
 use native.Mathlib.Omega.{arith}
 use lib.ListN.{length, take, drop, length-drop, length-map}
+use Rattle.std.specs.Prelude.{Some}
 use Rattle.laws.specs.Lists.{pad}
 use Rattle.rules.specs.Common as rules
 use Rattle.common.specs.declared.Common.{Common}
@@ -55,8 +55,7 @@ module _ (c : Common) (j : Judgement) (q : Round) (v : Fitting c j q) where
           start = j.start;
           offset = j.offset;
           earliest = E;
-          begun = true;
-          last = q.time;
+          last = Some q.time;
         }
         ≡ common_as (after c j E q)
     unfolding after
@@ -67,4 +66,4 @@ module _ (c : Common) (j : Judgement) (q : Round) (v : Fitting c j q) where
         let b : length put ≡ c.count - gone + q.listed =
         put_all_long (j.offset - j.base) stay (releases_of q) (omega (arith, stays, apply_room.from)) ∙ omega (arith, stays, releases_count q) in
         let n : c.count - gone + q.listed ≡ length (map job_of put) = sym (length-map put job_of ∙ b) in
-        λ i. record { tasks = a i; count = n i; base = j.base; start = j.start; offset = j.offset; earliest = E; begun = true; last = q.time }
+        λ i. record { tasks = a i; count = n i; base = j.base; start = j.start; offset = j.offset; earliest = E; last = Some q.time }

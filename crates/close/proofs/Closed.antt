@@ -3,7 +3,6 @@
 --     trial-says          what is tried before judging: the rules' refusal, or what they passed
 --     judged-so           a judgement of a record that was given back, and a list that passed 15
 --     stopped-early, concluded     the two ways out of a close
-use Rattle.std.specs.Prelude.{if◌then◌else◌}
 use mathlib.Core.Path.{◌≡◌, refl, sym, ap, ap₂, ◌∙◌, subst}
 use mathlib.Core.Bool.{Bool, true, false}
 use mathlib.Core.Option.{Option, some}
@@ -15,7 +14,7 @@ use lib.ListN.{take, drop}
 use Rattle.laws.specs.Tests.{◌<?◌}
 use Rattle.laws.specs.Lists.{pad}
 use Rattle.laws.proofs.Lists.{map_drop}
-use Rattle.rules.specs.Answer.{done, refused, refuse◌if◌else◌}
+use Rattle.rules.specs.Answer.{Answer, done, refused, refused_by, refuse◌if◌else◌}
 use Rattle.rules.specs.Table.{Table}
 use Rattle.rules.specs.Common.{Job, Common}
 use Rattle.rules.specs.Judge.{Release, Round, new_B, new_O, new_W}
@@ -31,15 +30,12 @@ use Rattle.common.specs.Common.{job_of, common_of, Given}
 use Rattle.common.proofs.Records.{numbers, length_is}
 use Rattle.judge.specs.declared.Judgement.{Judgement}
 use Rattle.judge.specs.Judgement.{judgement, Ready}
-use Rattle.release.specs.declared.listing.Standing.{Standing}
-use Rattle.release.specs.declared.listing.Standing.TheVariants.{Stands, Refused}
-use Rattle.release.specs.declared.spacing.Spaced.{Spaced}
 use Rattle.close.specs.declared.Closing.{Closing}
-use Rattle.release.specs.Listing.{standing, Listable}
+use Rattle.release.specs.Listing.{Listable}
 use Rattle.release.specs.Spacing.{spacing}
 use Rattle.release.specs.Insertion.{put_in, put_all, Packed}
-use Rattle.close.specs.Trial.{trial, stopped}
-use Rattle.close.specs.Close.{closing, refusal, after, conclusion, Judged}
+use Rattle.close.specs.Trial.{trial}
+use Rattle.close.specs.Close.{closed_as, closing, after, conclusion, Judged}
 use Rattle.release.proofs.Releases.{releases_count, few_listed, all_entered, listable}
 use Rattle.release.proofs.Order.{put_none, put_more, insert_is}
 use Rattle.close.proofs.Applied.{tasks_back}
@@ -76,23 +72,17 @@ pub record Passed (tab : Table) (c : Common) (q : Round) (E : List ℕ) : Type 0
   pub spaced : too_early tab q.r c.E q.releases ≡ false
   pub counted : E ≡ foldl (next_E tab q.r) c.E q.releases
 
-abbrev pub Says : Table → Common → Round → Standing → List ℕ → Type 0
-Says tab c q Stands E = Passed tab c q E
-Says tab c q (Refused n) E = close tab c q ≡ refused n
+abbrev pub Says : Table → Common → Round → Answer (List ℕ) → Type 0
+Says tab c q (done E) = Passed tab c q E
+Says tab c q (refused n) = close tab c q ≡ refused n
+Says tab c q (refused_by n i) = ⊥
 
-pub trial_says : (tab : Table) (c : Common) (q : Round) → Says tab c q (trial tab c q).standing (trial tab c q).earliest
+pub trial_says : (tab : Table) (c : Common) (q : Round) → Says tab c q (trial tab c q)
 unfolding trial spacing close
 trial_says tab c q = by (too_late q.r) (too_soon tab c q.r) (ill_formed tab q) (too_early tab q.r c.E q.releases) refl refl refl refl
   where
-    s : Bool → Bool → Bool → Bool → Spaced
-    s u v w x =
-        if u then stopped 3 c.E
-        else if v then stopped 14 c.E
-        else if w then stopped 15 c.E
-        else record { standing = standing 16 x; earliest = if x then c.E else foldl (next_E tab q.r) c.E q.releases }
-
     by : (u v w x : Bool) → too_late q.r ≡ u → too_soon tab c q.r ≡ v → ill_formed tab q ≡ w → too_early tab q.r c.E q.releases ≡ x
-        → Says tab c q (s u v w x).standing (s u v w x).earliest
+        → Says tab c q (refuse 3 if u else refuse 14 if v else refuse 15 if w else refuse 16 if x else done (foldl (next_E tab q.r) c.E q.releases))
     by true v w x d e f g = rw d
     by false true w x d e f g = rw (d, e)
     by false false true x d e f g = rw (d, e, f)
@@ -116,7 +106,7 @@ module _ {t : table.Table} {c : common.Common} (g : Given t c) where
   }
 
   conclusion_closes : (q : round.Round) {E : List ℕ} → Passed (table_of t) (common_of c) (round_of q) E
-      → conclusion c (judgement (table_of t) (common_of c) (round_of q)) E q ≡ closing c (close (table_of t) (common_of c) (round_of q))
+      → conclusion c (judgement (table_of t) (common_of c) (round_of q)) E q ≡ closing (close (table_of t) (common_of c) (round_of q))
   unfolding conclusion close judgement
   conclusion_closes q p =
       let same : (new_B (table_of t) (common_of c) q.time (round_of q).entries + 256 <? c.base + c.count + q.listed) ≡ too_many (table_of t) (common_of c) (round_of q) =
@@ -127,26 +117,23 @@ module _ {t : table.Table} {c : common.Common} (g : Given t c) where
       k d = record { common = d; reply = verdict (table_of t) (common_of c) (round_of q) }
 
       by : (b : Bool)
-          → (if b then refusal c 17
-          else closing c (done (k (after c (judgement (table_of t) (common_of c) (round_of q)) (foldl (next_E (table_of t) q.time) c.earliest (releases_of q)) q))))
-          ≡ closing c (refuse 17 if b else done (k (applied (table_of t) (common_of c) (round_of q))))
+          → refuse 17 if b
+          else done (closed_as (k (after c (judgement (table_of t) (common_of c) (round_of q)) (foldl (next_E (table_of t) q.time) c.earliest (releases_of q)) q)))
+          ≡ closing (refuse 17 if b else done (k (applied (table_of t) (common_of c) (round_of q))))
       by true = refl
-      by false = ap (λ (d : Common). closing c (done (k d))) (after_applied (table_of t) c q)
+      by false = ap (λ (d : Common). done (closed_as (k d))) (after_applied (table_of t) c q)
 
 -- the ways out of a close, from what its callees ensure
-module _ (t : table.Table) (c : common.Common) (q : round.Round) {s : Spaced} (e : s ≡ trial (table_of t) (common_of c) (round_of q)) where
-  said : Says (table_of t) (common_of c) (round_of q) s.standing s.earliest
-  said = subst (λ (x : Spaced). Says (table_of t) (common_of c) (round_of q) x.standing x.earliest) (sym e) (trial_says (table_of t) (common_of c) (round_of q))
+module _ (t : table.Table) (c : common.Common) (q : round.Round) where
+  said : {a : Answer (List ℕ)} → a ≡ trial (table_of t) (common_of c) (round_of q) → Says (table_of t) (common_of c) (round_of q) a
+  said e = subst (Says (table_of t) (common_of c) (round_of q)) (sym e) (trial_says (table_of t) (common_of c) (round_of q))
 
-  says_of : {x : Standing} → s.standing ≡ x → Says (table_of t) (common_of c) (round_of q) x s.earliest
-  says_of h = subst (λ (x : Standing). Says (table_of t) (common_of c) (round_of q) x s.earliest) h said
+  pub stopped_early : {n : ℕ} → refused n ≡ trial (table_of t) (common_of c) (round_of q) → closing (close (table_of t) (common_of c) (round_of q)) ≡ refused n
+  stopped_early h = ap closing (said h)
 
-  pub stopped_early : {n : ℕ} → s.standing ≡ Refused n → {r : Closing} → r ≡ closing c (refused n) → r ≡ closing c (close (table_of t) (common_of c) (round_of q))
-  stopped_early h p = p ∙ ap (closing c) (sym (says_of h))
-
-  module _ (h : s.standing ≡ Stands) where
-    passed_all : Passed (table_of t) (common_of c) (round_of q) s.earliest
-    passed_all = says_of h
+  module _ {E : List ℕ} (h : done E ≡ trial (table_of t) (common_of c) (round_of q)) where
+    passed_all : Passed (table_of t) (common_of c) (round_of q) E
+    passed_all = said h
 
     passed_list : Checked t → Listable t q
     passed_list k = record { checked = k; in_time = leb-false _ _ passed_all.in_time; formed = passed_all.formed }
@@ -160,5 +147,5 @@ module _ (t : table.Table) (c : common.Common) (q : round.Round) {s : Spaced} (e
       pub judged_so : Judged c j q
       judged_so = rw f (judgement_fits g q (passed_list k))
 
-      pub concluded : {r : Closing} → r ≡ conclusion c j s.earliest q → r ≡ closing c (close (table_of t) (common_of c) (round_of q))
-      concluded p = p ∙ ap (λ (j : Judgement). conclusion c j s.earliest q) f ∙ conclusion_closes g q passed_all
+      pub concluded : {a : Answer Closing} → a ≡ conclusion c j E q → a ≡ closing (close (table_of t) (common_of c) (round_of q))
+      concluded p = p ∙ ap (λ (j : Judgement). conclusion c j E q) f ∙ conclusion_closes g q passed_all

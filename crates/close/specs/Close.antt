@@ -1,35 +1,26 @@
 -- What a close answers by value, and the steps to it on the arrays. That they lead to the rules' close is proved in proofs/Closed.antt.
-use Rattle.std.specs.Prelude.{false, List, [], map, ℕ, ◌+◌, ◌-◌, ◌^◌, ◌≤◌, ◌<◌, take, drop, get_or, if◌then◌else◌}
+use Rattle.std.specs.Prelude.{List, map, ℕ, ◌+◌, ◌-◌, ◌^◌, ◌≤◌, ◌<◌, take, drop, get_or}
 use Rattle.std.proofs.Math.Option.{some}
 use Rattle.laws.specs.Tests.{◌<?◌}
-use Rattle.laws.specs.Lists.{pad}
-use Rattle.rules.specs.Answer.{Answer, done, refused, refused_by}
+use Rattle.rules.specs.Answer.{Answer, done, refuse◌if◌else◌}
 use Rattle.rules.specs.Common as rules
 use Rattle.rules.specs.Close.{Closed}
+use Rattle.refusal.specs.Refusal.{told_as}
 use Rattle.common.specs.declared.Common.{Common}
 use Rattle.common.specs.Common.{job_of, common_as}
 use Rattle.round.specs.declared.Round.{Round}
 use Rattle.round.specs.Round.{releases_of, no_release}
 use Rattle.judge.specs.declared.Judgement.{Judgement}
 use Rattle.close.specs.declared.Closing.{Closing}
-use Rattle.close.specs.declared.Outcome.TheVariants as outcome
 use Rattle.release.specs.Insertion.{put_all, Packed}
 
--- "A refusal gives its number and changes nothing": the record as it stood, and an empty reply.
-unfoldable pub refusal : Common → ℕ → Closing
-refusal c n = record { outcome = outcome.Refused n; common = c; classes = pad 15 0 []; back = 15; majority = false }
+-- The record after a round that was applied, and the reply.
+abbrev pub closed_as : Closed → Closing
+closed_as k = record { common = common_as k.common; classes = k.reply.classes; back = k.reply.back; majority = k.reply.notice }
 
--- What is answered, of a record that stood as c.
-abbrev pub closing : Common → Answer Closed → Closing
-closing c (done k) = record {
-  outcome = outcome.Accepted;
-  common = common_as k.common;
-  classes = k.reply.classes;
-  back = k.reply.back;
-  majority = k.reply.notice;
-}
-closing c (refused n) = refusal c n
-closing c (refused_by n i) = refusal c n
+-- "A refusal gives its number and changes nothing": there is no record beside it.
+abbrev pub closing : Answer Closed → Answer Closing
+closing = told_as closed_as
 
 -- The record with a judgement's B, W and O, the jobs up to B dropped, the releases put in, and E as it is given.
 unfoldable pub after : Common → Judgement → List ℕ → Round → rules.Common
@@ -43,10 +34,10 @@ after c j E q = record {
 }
 
 -- 17: "L + releases − new B > 256"; else all is done.
-unfoldable pub conclusion : Common → Judgement → List ℕ → Round → Closing
+unfoldable pub conclusion : Common → Judgement → List ℕ → Round → Answer Closing
 conclusion c j E q =
-    if j.base + 256 <? c.base + c.count + q.listed then refusal c 17
-    else record { outcome = outcome.Accepted; common = common_as (after c j E q); classes = j.classes; back = j.back; majority = j.majority }
+    refuse 17 if j.base + 256 <? c.base + c.count + q.listed
+    else done (record { common = common_as (after c j E q); classes = j.classes; back = j.back; majority = j.majority })
 
 -- A judgement of a record that was given back, and a list that passed 15.
 pub record Judged (c : Common) (j : Judgement) (q : Round) : Type 0 where

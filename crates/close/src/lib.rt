@@ -2,8 +2,8 @@
 #![tactic(auto)]
 
 ghost use Rattle.std.specs.Prelude.{◌≡◌};
-ghost use Rattle.rules.specs.Answer.{refused};
 ghost use Rattle.rules.specs.Close.{close};
+ghost use Rattle.refusal.specs.Refusal.{answer_of};
 ghost use Rattle.table.specs.Table.{table_of, Checked};
 ghost use Rattle.round.specs.Round.{round_of};
 ghost use Rattle.common.specs.Common.{common_of, common_as, Given};
@@ -13,40 +13,19 @@ mod trial;
 
 use common::Common;
 use judge::{Judgement, judge_round};
+use refusal::Refusal;
 use release::insertion::{all_put, dropped};
-use release::listing::Standing;
 use round::Round;
 use table::Table;
 use trial::tried;
 
-// "A refusal gives its number and changes nothing."
-#[derive(Clone, Copy)]
-pub enum Outcome {
-    Accepted,
-    Refused(u64),
-}
-
 // The common record after the round, and the reply: "one class number for each of fifteen places, the back-runner (15 if none)" and the majority notice.
-// Beside a refusal the record is as it stood, and the reply is empty: zeros, no back-runner, no majority.
 #[derive(Clone, Copy)]
 pub struct Closing {
-    pub outcome: Outcome,
     pub common: Common,
     pub classes: [u8; 15],
     pub back: u64,
     pub majority: bool,
-}
-
-fn refuse(c: Common, number: u64) -> Closing
-    ensures { result ≡ closing c (refused number) }
-{
-    Closing {
-        outcome: Outcome::Refused(number),
-        common: c,
-        classes: [0; 15],
-        back: 15,
-        majority: false,
-    }
 }
 
 // The record with the new B, W and O, the jobs up to B dropped, and each release in its place; E is what the list leaves.
@@ -66,43 +45,38 @@ fn apply(c: Common, j: Judgement, earliest: [u64; 64], q: Round) -> Common
         start: j.start,
         offset: j.offset,
         earliest,
-        begun: true,
-        last: q.time,
+        last: Some(q.time),
     }
 }
 
 // 17: "L + releases − new B > 256"; then the record changes.
-fn conclude(c: Common, j: Judgement, earliest: [u64; 64], q: Round) -> Closing
+#[tactic(auto, unfolding(crate::specs::Close::conclusion))]
+fn conclude(c: Common, j: Judgement, earliest: [u64; 64], q: Round) -> Result<Closing, Refusal>
     requires { Judged c j q }
-    ensures { result ≡ conclusion c j earliest q }
+    ensures { answer_of result ≡ conclusion c j earliest q }
 {
     let length = c.base + c.count as u64;
     let longer = length + q.listed as u64;
     if j.base + (Common::PLACES as u64) < longer {
-        return refuse(c, 17);
+        return Err(Refusal::NoPlace);
     }
     let common = apply(c, j, earliest, q);
     let classes = j.classes;
-    Closing {
-        outcome: Outcome::Accepted,
+    Ok(Closing {
         common,
         classes,
         back: j.back,
         majority: j.majority,
-    }
+    })
 }
 
-// "then 3, 14, 15, 16, 17; a station begins at 3." Judging comes before 17, and before anything changes.
-pub fn close_round(t: Table, c: Common, q: Round) -> Closing
+// "then 3, 14, 15, 16, 17; a station begins at 3." Judging comes before 17, and before anything changes. Where the record is refused, the caller keeps its own.
+#[tactic(auto, using(crate::proofs::Closed::stopped_early, crate::proofs::Closed::passed_ready, crate::proofs::Closed::judged_so, crate::proofs::Closed::concluded))]
+pub fn close_round(t: Table, c: Common, q: Round) -> Result<Closing, Refusal>
     requires { Checked t × Given t c }
-    ensures { result ≡ closing c (close (table_of t) (common_of c) (round_of q)) }
+    ensures { answer_of result ≡ closing (close (table_of t) (common_of c) (round_of q)) }
 {
-    let trial = tried(t, c, q);
-    let standing = trial.standing;
-    if let Standing::Refused(number) = standing {
-        return refuse(c, number);
-    }
+    let earliest = tried(t, c, q)?;
     let j = judge_round(t, c, q);
-    let earliest = trial.earliest;
     conclude(c, j, earliest, q)
 }

@@ -7,7 +7,7 @@ use Rattle.rules.specs.Common as rules
 use Rattle.table.specs.Table.{table_of}
 use Rattle.table.specs.declared.Table.{Table}
 use Rattle.common.specs.declared.Common.{Common}
-use Rattle.common.specs.declared.Breach.{Breach}
+use Rattle.std.specs.Prelude.{Option}
 use Rattle.common.specs.Common.{common_of}
 use Rattle.common.specs.Positions.{Projectable, Occupied}
 use Rattle.common.specs.Raw.{projected_at, breaker_at, breach_of, Summable, Boundable}
@@ -35,6 +35,6 @@ module _ {t : Table} {c : Common} {p time : ℕ} (v : Occupied t c p time) where
   may_test = boundable v.table v.common time v.soon
 
   pub bound_is : {end : ℕ} → end ≡ projected_at t.longest c.tasks c.start (p - c.base) → {task : ℕ} → task ≡ get_or c.tasks (p - c.base - 1) 0
-      → {r : Breach} → r ≡ breach_of (breaker_at c.earliest t.slack t.count task end time) → r ≡ breach_of (rules.breaker (table_of t) (common_of c) p time)
+      → {r : Option ℕ} → r ≡ breach_of (breaker_at c.earliest t.slack t.count task end time) → r ≡ breach_of (rules.breaker (table_of t) (common_of c) p time)
   bound_is e k q =
       rw (breaker_raw v.common p time v.past (here has_projection), ← (sum_is has_projection e), ← k) q

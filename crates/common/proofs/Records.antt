@@ -1,14 +1,12 @@
 -- A record by value and the record that it stands for: each is the other's one image, and what is known of one that this library gave back.
-use Rattle.std.specs.Prelude.{if◌then◌else◌}
+use Rattle.std.specs.Prelude.{Some}
 use mathlib.Core.Path.{◌≡◌, refl, sym, ap, ◌∙◌, subst}
-use mathlib.Core.Bool.{Bool, true, false}
 use mathlib.Core.Option.{Option, none, some}
 use mathlib.Core.List.{List, [], ◌∷◌, map}
 use Prim.Native.Nat.{ℕ, ◌+◌, ◌^◌, ◌≤◌, ◌<◌}
 use native.Mathlib.Omega.{arith}
 use lib.ListN.{length, take, get_or, length-map, get_or-map}
 use lib.Seq.{get_or-take}
-use Rattle.laws.specs.Tests.{found, maybe}
 use Rattle.laws.specs.Lists.{pad}
 use Rattle.laws.proofs.Lists.{take_pad, length_pad}
 use Rattle.rules.specs.Common as rules
@@ -19,7 +17,7 @@ use Rattle.table.specs.Table.{table_of}
 use Rattle.table.specs.declared.Table.{Table}
 use Rattle.table.proofs.Facts.{tasks_count}
 use Rattle.common.specs.declared.Common.{Common}
-use Rattle.common.specs.Common.{job_of, common_of, common_as, Given}
+use Rattle.common.specs.Common.{job_of, last_of, last_as, common_of, common_as, Given}
 
 abbrev task_of : rules.Job → ℕ
 task_of j = j.task_of
@@ -33,7 +31,7 @@ kept_back js =
     let e : length (map task_of js) ≡ length js = length-map js task_of in
     ap (λ n. map job_of (take n (pad 256 0 (map task_of js)))) (sym e) ∙ ap (map job_of) (take_pad 256 0 (map task_of js)) ∙ jobs_back js
 
-last_back : (o : Option ℕ) → (if found o then some (maybe 0 (λ l. l) o) else none) ≡ o
+last_back : (o : Option ℕ) → last_of (last_as o) ≡ o
 last_back none = refl
 last_back (some l) = refl
 
@@ -57,12 +55,8 @@ pub record Numbers (t : Table) (c : Common) : Type 0 where
   pub start : c.start < 2 ^ 49
   pub earliest_places : length c.earliest ≡ 64
   pub earliest : (i : ℕ) → get_or c.earliest i 0 < 2 ^ 49
-  pub last : c.last < 2 ^ 48
+  pub last : (l : ℕ) → c.last ≡ Some l → l < 2 ^ 48
   pub task : (k : ℕ) → k < c.count → get_or c.tasks k 0 < t.count
-
-last_small : (b : Bool) (l m : ℕ) → m ≡ maybe 0 (λ l. l) (if b then some l else none) → ((n : ℕ) → (if b then some l else none) ≡ some n → n < 2 ^ 48) → m < 2 ^ 48
-last_small true l m e h = omega (arith, e, h l refl)
-last_small false l m e h = omega (arith, e)
 
 module _ {t : Table} {c : Common} (g : Given t c) where
   pub kept_count : length (common_of c).kept ≡ c.count
@@ -90,7 +84,7 @@ module _ {t : Table} {c : Common} (g : Given t c) where
     start = g.sound.W_below;
     earliest_places = g.sound.places;
     earliest = g.sound.E_below;
-    last = last_small c.begun c.last c.last (ap (λ (c : Common). c.last) g.exact) g.sound.last_below;
+    last = λ l e. g.sound.last_below l (ap last_of e);
     task = λ k h. omega (arith, job_there k h, tasks_count t, g.sound.known k (omega (arith, kept_count)));
   }
 

@@ -7,7 +7,7 @@ use Rattle.rules.specs.Common as rules
 use Rattle.table.specs.Table.{table_of}
 use Rattle.table.specs.declared.Table.{Table}
 use Rattle.common.specs.declared.Common.{Common}
-use Rattle.common.specs.declared.Breach.{Breach}
+use Rattle.std.specs.Prelude.{Option}
 use Rattle.common.specs.Common.{common_of, common_as}
 use Rattle.common.specs.Raw.{earliest_of, projected_at, breaker_at, breach_of}
 
@@ -23,7 +23,7 @@ earliest_at_settled earliest i t e d = e ∙ sym d
 pub projected_settled : (longest tasks : List ℕ) (start n : ℕ) {r s : ℕ} → r ≡ projected_at longest tasks start n → s ≡ projected_at longest tasks start n → r ≡ s
 projected_settled longest tasks start n e d = e ∙ sym d
 
-pub breach_at_settled : (earliest slack : List ℕ) (count task end t : ℕ) {r s : Breach} → r ≡ breach_of (breaker_at earliest slack count task end t)
+pub breach_at_settled : (earliest slack : List ℕ) (count task end t : ℕ) {r s : Option ℕ} → r ≡ breach_of (breaker_at earliest slack count task end t)
     → s ≡ breach_of (breaker_at earliest slack count task end t) → r ≡ s
 breach_at_settled earliest slack count task end t e d = e ∙ sym d
 
@@ -34,6 +34,6 @@ pub projection_settled : (t : Table) (c : Common) (p : ℕ) {r s : ℕ} → r �
     → s ≡ rules.projection (table_of t) (common_of c) p → r ≡ s
 projection_settled t c p e d = e ∙ sym d
 
-pub bound_settled : (t : Table) (c : Common) (p time : ℕ) {r s : Breach} → r ≡ breach_of (rules.breaker (table_of t) (common_of c) p time)
+pub bound_settled : (t : Table) (c : Common) (p time : ℕ) {r s : Option ℕ} → r ≡ breach_of (rules.breaker (table_of t) (common_of c) p time)
     → s ≡ breach_of (rules.breaker (table_of t) (common_of c) p time) → r ≡ s
 bound_settled t c p time e d = e ∙ sym d

@@ -1,7 +1,7 @@
 -- What a common record by value stands for, the one value that stands for a common record of the rules, and what a record is that this library gave back.
-use Rattle.std.specs.Prelude.{◌≡◌, map, ℕ, length, take, if◌then◌else◌}
-use Rattle.std.proofs.Math.Option.{none, some}
-use Rattle.laws.specs.Tests.{found, maybe}
+use Rattle.std.specs.Prelude.{◌≡◌, Some, None, map, ℕ, length, take}
+use Rattle.std.specs.Prelude as code
+use Rattle.std.proofs.Math.Option.{Option, none, some}
 use Rattle.laws.specs.Lists.{pad}
 use Rattle.rules.specs.Common as rules
 use Rattle.rules.specs.Sound.{Sound}
@@ -12,6 +12,15 @@ use Rattle.common.specs.declared.Common.{Common}
 abbrev pub job_of : ℕ → rules.Job
 job_of i = record { task_of = i }
 
+-- "At the start .. no round has been."
+abbrev pub last_of : code.Option ℕ → Option ℕ
+last_of None = none
+last_of (Some l) = some l
+
+abbrev pub last_as : Option ℕ → code.Option ℕ
+last_as none = None
+last_as (some l) = Some l
+
 abbrev pub common_of : Common → rules.Common
 common_of c = record {
   kept = map job_of (take c.count c.tasks);
@@ -19,7 +28,7 @@ common_of c = record {
   W = c.start;
   O = c.offset;
   E = c.earliest;
-  last = if c.begun then some c.last else none;
+  last = last_of c.last;
 }
 
 abbrev pub common_as : rules.Common → Common
@@ -30,8 +39,7 @@ common_as c = record {
   start = c.W;
   offset = c.O;
   earliest = c.E;
-  begun = found c.last;
-  last = maybe 0 (λ l. l) c.last;
+  last = last_as c.last;
 }
 
 -- A common record that this library gave back under a table.

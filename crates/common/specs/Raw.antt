@@ -6,8 +6,8 @@ use Rattle.laws.specs.Tests.{◌<?◌}
 use Rattle.laws.specs.Search.{lowest}
 use Rattle.laws.specs.Sums.{total}
 use Rattle.laws.specs.Lists.{rows}
-use Rattle.common.specs.declared.Breach.{Breach}
-use Rattle.common.specs.declared.Breach.TheVariants.{Met, By}
+use Rattle.std.specs.Prelude as code
+use Rattle.std.specs.Prelude.{Some, None}
 
 -- "the larger of E(i) and t"
 unfoldable pub earliest_of : List ℕ → ℕ → ℕ → ℕ
@@ -22,9 +22,9 @@ unfoldable pub breaker_at : List ℕ → List ℕ → ℕ → ℕ → ℕ → �
 breaker_at earliest slack count task end t = lowest (λ i. (i <? task) && (earliest_of earliest i t + get_or slack i 0 <? end)) count
 
 -- The bound holds, or the lowest-numbered task that breaks it.
-abbrev pub breach_of : Option ℕ → Breach
-breach_of none = Met
-breach_of (some i) = By i
+abbrev pub breach_of : Option ℕ → code.Option ℕ
+breach_of none = None
+breach_of (some i) = Some i
 
 -- What the sum of the first n asks: known tasks, and numbers so small that it does not wrap.
 pub record Summable (longest tasks : List ℕ) (start n : ℕ) : Type 0 where

@@ -1,7 +1,7 @@
 // The common record by value; projections and the bound.
 #![tactic(auto)]
 
-ghost use Rattle.std.specs.Prelude.{◌≡◌, ◌+◌, ◌^◌, ◌≤◌, ◌<◌, min, get_or};
+ghost use Rattle.std.specs.Prelude.{◌≡◌, ◌+◌, ◌^◌, ◌≤◌, ◌<◌, get_or};
 ghost use Rattle.rules.specs.Common.{fresh, earliest, projection, breaker};
 ghost use Rattle.table.specs.Table.{table_of};
 ghost use Rattle.common.specs.Common.{common_of, common_as};
@@ -10,8 +10,11 @@ ghost use Rattle.common.specs.Raw.{earliest_of, projected_at, breaker_at, breach
 
 use table::Table;
 
-// "It holds the jobs still kept, in order": their tasks in the first `count` places. Places not used hold 0, and so does `last` where none has begun,
-// so that equal records are equal bit for bit.
+// "It holds the jobs still kept, in order": their tasks in the first `count` places, of which those not used hold 0; "and the last round's time", where one
+// has been.
+//
+// An array and a count, in memory of a fixed size, as the C interface lays a record in words. That a record is one that was given back (`Given`) speaks of the
+// table beside it too, so the functions that need it ask it of both.
 #[derive(Clone, Copy)]
 pub struct Common {
     pub tasks: [u8; Common::PLACES],
@@ -20,8 +23,7 @@ pub struct Common {
     pub start: u64,
     pub offset: u64,
     pub earliest: [u64; Common::TASKS],
-    pub begun: bool,
-    pub last: u64,
+    pub last: Option<u64>,
 }
 
 impl Common {
@@ -41,23 +43,9 @@ impl Common {
             start: 0,
             offset: 0,
             earliest: [0; Common::TASKS],
-            begun: false,
-            last: 0,
+            last: None,
         }
     }
-}
-
-// The bound holds, or the lowest-numbered task that breaks it.
-#[derive(Clone, Copy)]
-pub enum Breach {
-    Met,
-    By(usize),
-}
-
-fn wide(x: u8) -> usize
-    ensures { (result ≡ x) × (result < 256) }
-{
-    x as usize
 }
 
 // The task of the job at a place.
@@ -65,19 +53,16 @@ pub fn task_at(tasks: &[u8; 256], k: usize) -> usize
     requires { k < 256 }
     ensures { (result ≡ get_or tasks.now k 0) × (result < 256) }
 {
-    wide(tasks[k])
+    usize::from(tasks[k])
 }
 
 // "Earliest release at t: the larger of E(i) and t."
+#[tactic(auto, unfolding(crate::specs::Raw::earliest_of))]
 pub fn earliest_at(earliest: &[u64; 64], i: usize, t: u64) -> u64
     requires { i < 64 }
     ensures { result ≡ earliest_of earliest.now i t }
 {
-    let e = earliest[i];
-    if e < t {
-        return t;
-    }
-    e
+    earliest[i].max(t)
 }
 
 // "W plus the C of every job": of the first n kept.
@@ -85,23 +70,11 @@ pub fn projected<'a>(longest: &'a [u64; 64], tasks: &'a [u8; 256], start: u64, n
     requires { Summable longest.now tasks.now start n }
     ensures { result ≡ projected_at longest.now tasks.now start n }
 {
-    let mut end = start;
-    let mut k = 0;
-    while k < n {
-        let i = task_at(tasks, k);
-        end = end + longest[i];
-        k += 1;
-    }
-    end
-}
-
-fn smaller(a: usize, b: usize) -> usize
-    ensures { result ≡ min a b }
-{
-    if a < b {
-        return a;
-    }
-    b
+    let work = tasks[..n]
+        .iter()
+        .map(|&task| longest[usize::from(task)])
+        .sum::<u64>();
+    start + work
 }
 
 // "Every such task counts, queued or not": the lowest-numbered task of higher priority than a job of `task` for which that job, ending then, ends too late.
@@ -112,23 +85,16 @@ pub fn breach_at<'a>(
     task: usize,
     end: u64,
     t: u64,
-) -> Breach
+) -> Option<usize>
     requires { Boundable earliest.now slack.now count t }
     ensures { result ≡ breach_of (breaker_at earliest.now slack.now count task end t) }
 {
-    let higher = smaller(task, count);
-    let mut i = 0;
-    while i < higher {
-        let e = earliest_at(earliest, i, t);
-        if e + slack[i] < end {
-            return Breach::By(i);
-        }
-        i += 1;
-    }
-    Breach::Met
+    let higher = task.min(count);
+    (0..higher).find(|&i| earliest_at(earliest, i, t) + slack[i] < end)
 }
 
 // "Earliest release at t", of a record by value.
+#[tactic(auto, unfolding(rules::specs::Common::earliest, crate::specs::Raw::earliest_of))]
 pub fn earliest_of(c: Common, i: usize, time: u64) -> u64
     requires { i < 64 }
     ensures { result ≡ earliest (common_of c) i time }
@@ -137,6 +103,7 @@ pub fn earliest_of(c: Common, i: usize, time: u64) -> u64
 }
 
 // "Projection of position p ≥ B: W plus the C of every job from B + 1 to p. Of B it is W."
+#[tactic(auto, using(crate::proofs::Positions::may_sum, crate::proofs::Positions::sum_is))]
 pub fn projection_of(t: Table, c: Common, p: u64) -> u64
     requires { Projectable t c p }
     ensures { result ≡ projection (table_of t) (common_of c) p }
@@ -146,7 +113,7 @@ pub fn projection_of(t: Table, c: Common, p: u64) -> u64
 }
 
 // "Bound for position p at time t": 9 names "the lowest-numbered task that breaks it".
-pub fn bound_of(t: Table, c: Common, p: u64, time: u64) -> Breach
+pub fn bound_of(t: Table, c: Common, p: u64, time: u64) -> Option<usize>
     requires { Occupied t c p time }
     ensures { result ≡ breach_of (breaker (table_of t) (common_of c) p time) }
 {

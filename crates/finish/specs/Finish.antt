@@ -1,21 +1,21 @@
--- What a finish in a lent node says, and the numbers that it sets.
-use Rattle.std.specs.Prelude.{ℕ}
-use Rattle.node.specs.declared.FinishAnswer.{FinishAnswer}
-use Rattle.node.specs.declared.FinishAnswer.TheVariants as finish
-use Rattle.node.specs.declared.Finishing.{Finishing}
+-- What a finish in a lent node says, the numbers that it sets, and the node that it leaves.
+use Rattle.rules.specs.Answer.{Answer, done, refused, refused_by}
+use Rattle.rules.specs.Node as rules
+use Rattle.refusal.specs.Refusal.{told_as}
+use Rattle.node.specs.declared.Node.{Node}
+use Rattle.node.specs.Node.{node_as}
 use Rattle.finish.specs.declared.Finished.{Finished}
 
--- "A refusal gives its number"; 0 is none of them.
-abbrev pub number_of : FinishAnswer → ℕ
-number_of finish.Finished = 0
-number_of (finish.Refused k) = k
+-- Of the node that is given back, the numbers that a finish sets.
+abbrev pub numbers_of : Answer rules.Node → Answer Finished
+numbers_of = told_as (λ m. record { progress = m.progress; completed = m.completed; running = m.running; latest = m.latest })
 
--- The refusal, and of the node that is given back the numbers that a finish sets.
-abbrev pub numbers_of : Finishing → Finished
-numbers_of f = record {
-  refusal = number_of f.answer;
-  progress = f.node.progress;
-  completed = f.node.completed;
-  running = f.node.running;
-  latest = f.node.latest;
-}
+-- "A refusal gives its number": nothing else is told.
+abbrev pub accepted : Answer rules.Node → Answer (Unit {0})
+accepted = told_as (λ m. tt)
+
+-- "A refusal gives its number and changes nothing."
+abbrev pub left : Node → Answer rules.Node → Node
+left n (done m) = node_as m
+left n (refused k) = n
+left n (refused_by k i) = n

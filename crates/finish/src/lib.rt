@@ -1,60 +1,50 @@
-// A finish in a node that the caller lends: it is set in place, over a step by value.
+// A finish in a node that the caller lends: it is set in place, over a step by value. Document 01 names this form.
 #![tactic(auto)]
 
 ghost use Rattle.std.specs.Prelude.{◌≡◌};
 ghost use Rattle.rules.specs.Node as rules;
-ghost use Rattle.node.specs.Node.{node_of, Ours, finishing};
-ghost use Rattle.finish.specs.Finish.{number_of, numbers_of};
+ghost use Rattle.refusal.specs.Refusal.{answer_of};
+ghost use Rattle.node.specs.Node.{node_of, Ours};
+ghost use Rattle.finish.specs.Finish.{numbers_of, accepted, left};
 
-use node::{FinishAnswer, Node};
+use node::Node;
+use refusal::Refusal;
 
-// What a finish says and sets: the refusal (0 where there is none), and the numbers of the node afterwards that are its own.
-#[derive(Clone, Copy)]
+// What a finish sets: the numbers of the node afterwards that are its own.
+#[derive(Clone, Copy, Debug, PartialEq, Eq)]
 pub struct Finished {
-    pub refusal: u64,
     pub progress: u64,
     pub completed: u64,
     pub running: bool,
     pub latest: u64,
 }
 
-fn number_of(answer: FinishAnswer) -> u64
-    ensures { result ≡ number_of answer }
-{
-    match answer {
-        FinishAnswer::Finished => 0,
-        FinishAnswer::Refused(number) => number,
-    }
-}
-
 // "Finish: progress grows by one, the completion time is now, the mark falls."
-pub fn finish_step(node: Node, time: u64) -> Finished
+pub fn finish_step(node: Node, time: u64) -> Result<Finished, Refusal>
     requires { Ours node }
-    ensures { result ≡ numbers_of (finishing node (rules.finish (node_of node) time)) }
+    ensures { answer_of result ≡ numbers_of (rules.finish (node_of node) time) }
 {
-    let done = node::finish_node(node, time);
-    let answer = done.answer;
-    let refusal = number_of(answer);
-    let after = done.node;
-    Finished {
-        refusal,
+    let after = node::finish_node(node, time)?;
+    Ok(Finished {
         progress: after.progress,
         completed: after.completed,
         running: after.running,
         latest: after.latest,
-    }
+    })
 }
 
-// "A finish changes the node's own record and nothing beside it": afterwards the lent node is the very node that the finish by value gives back.
-pub fn finish(node: &mut Node, time: u64) -> u64
+// "A finish changes the node's own record and nothing beside it": afterwards the lent node is the very node that the finish by value gives back, and
+// where it is refused the node that it was.
+#[tactic(auto, using(crate::proofs::Own::set_in_place))]
+pub fn finish(node: &mut Node, time: u64) -> Result<(), Refusal>
     requires { Ours node.old }
-    ensures { (result ≡ number_of (finishing node.old (rules.finish (node_of node.old) time)).answer)
-        × (node.new ≡ (finishing node.old (rules.finish (node_of node.old) time)).node) }
+    ensures answer { answer_of result ≡ accepted (rules.finish (node_of node.old) time) }
+    ensures node_after { node.new ≡ left node.old (rules.finish (node_of node.old) time) }
 {
-    let done = finish_step(*node, time);
+    let done = finish_step(*node, time)?;
     node.progress = done.progress;
     node.completed = done.completed;
     node.running = done.running;
     node.latest = done.latest;
-    done.refusal
+    Ok(())
 }

@@ -20,8 +20,7 @@ use Rattle.rules.specs.Numbers.{Read, Reads, ◌>>=◌, after, give, groups_afte
 use Rattle.rules.specs.Written.{times, counted, read_release, read_report, read_entry, read_record}
 use Rattle.rules.specs.Session.{read_task, read_table}
 use Rattle.intake.specs.Table.{answered, under, checked_tasks, counted_tasks}
-use Rattle.number.proofs.Two.{two_then}
-use Rattle.intake.proofs.Parts.{table_parts}
+use Rattle.intake.proofs.Parts.{two_then, table_parts}
 
 -- what is read of s stays so with t behind it
 abbrev pub Same : {A : Type 0} → Answer (Read A) → List ℕ → Answer (Read A) → Type 0

@@ -5,11 +5,10 @@ use mathlib.Core.List.{List}
 use Prim.Native.Nat.{ℕ}
 use Rattle.rules.specs.Answer.{Answer, done, refused, refused_by, refuse◌if◌else◌}
 use Rattle.rules.specs.Table as rules
-use Rattle.rules.specs.Numbers.{Reads, after, give, number}
+use Rattle.rules.specs.Numbers.{Reads, ◌>>=◌, after, give, number}
 use Rattle.rules.specs.Written.{times}
 use Rattle.rules.specs.Session.{read_task, read_table}
 use Rattle.number.proofs.After.{after_same}
-use Rattle.number.proofs.Two.{two_then}
 use Rattle.intake.specs.Table.{under, checked_tasks, counted_tasks}
 
 refuse_first : {A B : Type 0} (n : ℕ) (b : Bool) (x : A) (s : List ℕ) (f : A → Reads B) (g : Reads B) → f x s ≡ g s → after (refuse n if b else give x s) f ≡ refuse n if b else g s
@@ -20,6 +19,10 @@ by_answer : {A X : Type 0} {l r : X} (a : Answer A) → ((t : A) → a ≡ done 
 by_answer (done t) f g h = f t refl
 by_answer (refused n) f g h = g n refl
 by_answer (refused_by n i) f g h = h n i refl
+
+-- two numbers, and what follows them
+abbrev pub two_then : {A : Type 0} → (ℕ → ℕ → Reads A) → Reads A
+two_then f = number >>= λ a. number >>= λ b. f a b
 
 pub table_parts : (s : List ℕ) → read_table s ≡ two_then counted_tasks s
 unfolding read_table

@@ -13,15 +13,20 @@ use Rattle.rules.specs.Written.{times}
 use Rattle.rules.specs.Session.{read_task, read_table}
 use Rattle.rules.proofs.Answers.{same_done, passed, passed_naming}
 use Rattle.table.specs.Table.{table_of, Checked}
-use Rattle.intake.specs.declared.TableAnswer.TheVariants as answer
-use Rattle.intake.specs.declared.TableRead.{TableRead}
+use Rattle.table.specs.declared.Table.{Table}
+use Rattle.std.specs.Prelude.{Result}
+use Rattle.refusal.specs.declared.Refusal.{Refusal}
+use Rattle.refusal.specs.Refusal.{answer_of}
+use Rattle.refusal.proofs.Same.{settled}
+use Rattle.refusal.proofs.Answers.{done_same, done_refused, refused_same}
 use Rattle.intake.specs.Table.{table_read, under, answered, checked_tasks}
 use Rattle.intake.proofs.Tasks.{table_back}
 use Rattle.intake.proofs.Parts.{table_parts}
 use Rattle.intake.proofs.Final.{Short, table_window}
 
-pub read_table_settled : (bytes : List ℕ) {r s : TableRead} → r ≡ table_read bytes (read_table bytes) → s ≡ table_read bytes (read_table bytes) → r ≡ s
-read_table_settled bytes p q = p ∙ sym q
+pub read_table_settled :
+    (bytes : List ℕ) {r s : Result (Table × ℕ) Refusal} → answer_of r ≡ table_read bytes (read_table bytes) → answer_of s ≡ table_read bytes (read_table bytes) → r ≡ s
+read_table_settled bytes p q = settled p q
 
 -- what the check lets pass is the table that it was given
 abbrev Kept : Answer (Read rules.Table) → Type 0
@@ -55,45 +60,30 @@ kept_table s =
     rw (table_parts s) (kept_after (number s) _ λ m s₁. kept_after (number s₁) _ λ timeout s₂. kept_after (number s₂) _ λ count s₃.
     kept_refuse 1 (rules.out_of_range m timeout count) (checked_tasks m timeout count s₃) (kept_after (times count read_task s₃) _ λ tasks s₄. kept_answered (under m timeout tasks) s₄))
 
-module _ (bytes : List ℕ) {r : TableRead} (p : r ≡ table_read bytes (read_table bytes)) where
-  pub table_checked : r.answer ≡ answer.Read → Checked r.table
+module _ (bytes : List ℕ) {table : Table} {used : ℕ} (p : done (table, used) ≡ table_read bytes (read_table bytes)) where
+  pub table_checked : Checked table
   table_checked = by (read_table bytes) p (kept_table bytes)
     where
-      by : (a : Answer (Read rules.Table)) → r ≡ table_read bytes a → Kept a → r.answer ≡ answer.Read → Checked r.table
-      by (done x) q k g =
-          let e : table_of r.table ≡ x.value = ap (λ (r : TableRead). table_of r.table) q ∙ table_back x.value in
+      by : (a : Answer (Read rules.Table)) → done (table, used) ≡ table_read bytes a → Kept a → Checked table
+      by (done x) q k =
+          let e : table_of table ≡ x.value = ap (λ (z : Table × ℕ). table_of z.0) (done_same q) ∙ table_back x.value in
           record { passes = subst (λ (t : rules.Table). rules.check t ≡ done t) (sym e) k }
-      by (refused n) q k g =
-          let o : r.answer ≡ answer.Refused n = ap (λ (r : TableRead). r.answer) q in
-          let z : ◌≡◌ {A = ℕ} 0 1 = cc in
-          absurd (omega arith)
-      by (refused_by n i) q k g =
-          let o : r.answer ≡ answer.Refused n = ap (λ (r : TableRead). r.answer) q in
-          let z : ◌≡◌ {A = ℕ} 0 1 = cc in
-          absurd (omega arith)
+      by (refused n) q k = absurd (done_refused q)
+      by (refused_by n i) q k = absurd (done_refused q)
 
-  pub table_within : r.used ≤ length bytes
+  pub table_within : used ≤ length bytes
   table_within = by (read_table bytes) p
     where
-      by : (a : Answer (Read rules.Table)) → r ≡ table_read bytes a → r.used ≤ length bytes
-      by (done x) q = omega (arith, ap (λ (r : TableRead). r.used) q)
-      by (refused n) q = omega (arith, ap (λ (r : TableRead). r.used) q)
-      by (refused_by n i) q = omega (arith, ap (λ (r : TableRead). r.used) q)
+      by : (a : Answer (Read rules.Table)) → done (table, used) ≡ table_read bytes a → used ≤ length bytes
+      by (done x) q = omega (arith, ap (λ (z : Table × ℕ). z.1) (done_same q))
+      by (refused n) q = absurd (done_refused q)
+      by (refused_by n i) q = absurd (done_refused q)
 
-  -- 18 is told of few bytes only: there is room for more
-  pub table_short : r.answer ≡ answer.Refused 18 → length bytes < 2331
-  table_short = by (read_table bytes) p (table_window.short bytes)
-    where
-      by : (a : Answer (Read rules.Table)) → r ≡ table_read bytes a → Short 2331 bytes a → r.answer ≡ answer.Refused 18 → length bytes < 2331
-      by (done x) q h g =
-          let o : r.answer ≡ answer.Read = ap (λ (r : TableRead). r.answer) q in
-          let z : ◌≡◌ {A = ℕ} 0 1 = cc in
-          absurd (omega arith)
-      by (refused n) q h g =
-          let o : r.answer ≡ answer.Refused n = ap (λ (r : TableRead). r.answer) q in
-          let e : n ≡ 18 = cc in
-          h e
-      by (refused_by n i) q h g =
-          let o : r.answer ≡ answer.Refused n = ap (λ (r : TableRead). r.answer) q in
-          let e : n ≡ 18 = cc in
-          h e
+-- 18 is told of few bytes only: there is room for more
+pub table_short : (bytes : List ℕ) → refused 18 ≡ table_read bytes (read_table bytes) → length bytes < 2331
+table_short bytes p = by (read_table bytes) p (table_window.short bytes)
+  where
+    by : (a : Answer (Read rules.Table)) → refused 18 ≡ table_read bytes a → Short 2331 bytes a → length bytes < 2331
+    by (done x) q h = absurd (done_refused (sym q))
+    by (refused n) q h = h (sym (refused_same q))
+    by (refused_by n i) q h = h (sym (refused_same q))

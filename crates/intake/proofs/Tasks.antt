@@ -1,97 +1,47 @@
 -- A list of tasks in the table's four arrays.
-use mathlib.Core.Path.{◌≡◌, refl, sym, ap, ◌∙◌}
-use mathlib.Core.List.{List, [], ◌∷◌, map}
-use Prim.Native.Nat.{ℕ, zero, suc, ◌-◌, ◌<◌}
-use native.Mathlib.Omega.{arith}
-use lib.ListN.{length, set, get_or, replicate, length-map, get_or-map}
+use mathlib.Core.Path.{◌≡◌, sym, ap, ◌∙◌}
+use mathlib.Core.List.{List, [], ◌∷◌, ◌++◌, map}
+use Prim.Native.Nat.{ℕ, ◌<◌}
+use lib.ListN.{length, set, get_or, length-map, get_or-map}
 use lib.Seq.{ext_get_or}
 use Rattle.laws.specs.Lists.{pad}
-use Rattle.laws.proofs.Lists.{map_append, getD_pad, length_rows, rows_at}
+use Rattle.laws.proofs.Lists.{map_append, pad_snoc, getD_pad, length_rows, rows_at}
 use Rattle.rules.specs.Table as rules
 use Rattle.rules.specs.Session.{read_task}
 use Rattle.rules.proofs.Reading.{Takes, number_takes, give_takes, then_takes}
 use Rattle.table.specs.declared.Table.{Table}
 use Rattle.table.specs.Table.{row, table_of}
-use Rattle.number.proofs.Told.{Tells}
-use Rattle.intake.specs.declared.Task.{Task}
-use Rattle.intake.specs.declared.TaskRead.TheVariants as task
-use Rattle.intake.specs.Table.{task_as, table_as, blank_table, with_task}
+use Rattle.intake.specs.Table.{task_as, table_as, with_task}
 
-module _ {A B : Type 0} (f : A → B) where
-  map_set : (l : List A) (i : ℕ) (x : A) → map f (set l i x) ≡ set (map f l) i (f x)
-  map_set [] i x = refl
-  map_set (y ∷ l) zero x = refl
-  map_set (y ∷ l) (suc i) x = ap (λ (m : List B). f y ∷ m) (map_set l i x)
-
-  map_replicate : (n : ℕ) (x : A) → map f (replicate n x) ≡ replicate n (f x)
-  map_replicate zero x = refl
-  map_replicate (suc n) x = ap (λ (m : List B). f x ∷ m) (map_replicate n x)
-
-  map_pad : (n : ℕ) (blank : A) (l : List A) → map f (pad n blank l) ≡ pad n (f blank) (map f l)
-  unfolding pad
-  map_pad n blank l = map_append f l (replicate (n - length l) blank) ∙ rw (map_replicate (n - length l) blank, length-map l f)
-
--- the arrays hold these, place by place
-pub record Holds (m timeout count : ℕ) (list : List Task) (t : Table) : Type 0 where
-  pub nodes : t.nodes ≡ m
-  pub timeout_is : t.timeout ≡ timeout
-  pub count_is : t.count ≡ count
-  pub longest : t.longest ≡ map (λ k. k.longest) list
-  pub distance : t.distance ≡ map (λ k. k.distance) list
-  pub deadline : t.deadline ≡ map (λ k. k.deadline) list
-  pub slack : t.slack ≡ map (λ k. k.slack) list
-
-field_more : (f : Task → ℕ) (list : List Task) (i : ℕ) (x : Task) {a : List ℕ} → a ≡ map f list → set a i (f x) ≡ map f (set list i x)
-field_more f list i x e = rw e (sym (map_set f list i x))
-
-pub holds_more : {m timeout count : ℕ} {list : List Task} {t u : Table} (i : ℕ) (x : Task) → Holds m timeout count list t → u ≡ with_task t i x → Holds m timeout count (set list i x) u
-holds_more {m} {timeout} {count} {list} {t} {u} i x h e = rw e (record {
-  nodes = h.nodes;
-  timeout_is = h.timeout_is;
-  count_is = h.count_is;
-  longest = field_more (λ k. k.longest) list i x h.longest;
-  distance = field_more (λ k. k.distance) list i x h.distance;
-  deadline = field_more (λ k. k.deadline) list i x h.deadline;
-  slack = field_more (λ k. k.slack) list i x h.slack;
-})
-
-abbrev pub no_task : Task
-no_task = record { longest = 0; distance = 0; deadline = 0; slack = 0 }
-
-abbrev pub tasks_in : List rules.Task → List Task
-tasks_in tasks = pad 64 no_task (map task_as tasks)
-
-map_map : {A B C : Type 0} (f : A → B) (g : B → C) (l : List A) → map g (map f l) ≡ map (λ x. g (f x)) l
-map_map f g [] = refl
-map_map {C = C} f g (x ∷ l) = ap (λ (m : List C). g (f x) ∷ m) (map_map f g l)
-
-field_all : (f : Task → ℕ) (tasks : List rules.Task) {a : List ℕ} → a ≡ map f (tasks_in tasks) → a ≡ pad 64 (f no_task) (map (λ k. f (task_as k)) tasks)
-field_all f tasks e = e ∙ map_pad f 64 no_task (map task_as tasks) ∙ ap (pad 64 (f no_task)) (map_map task_as f tasks)
-
-pub holds_all : {m timeout : ℕ} (tasks : List rules.Task) {t : Table} → Holds m timeout (length tasks) (tasks_in tasks) t → t ≡ table_as (record { m = m; timeout = timeout; tasks = tasks })
-holds_all tasks h = λ i. record {
-  nodes = h.nodes i;
-  timeout = h.timeout_is i;
-  count = h.count_is i;
-  longest = field_all (λ k. k.longest) tasks h.longest i;
-  distance = field_all (λ k. k.distance) tasks h.distance i;
-  deadline = field_all (λ k. k.deadline) tasks h.deadline i;
-  slack = field_all (λ k. k.slack) tasks h.slack i;
+-- a table of so many tasks, of which these were put in their places
+abbrev pub so_far : ℕ → ℕ → ℕ → List rules.Task → Table
+so_far m timeout count acc = record {
+  nodes = m;
+  timeout = timeout;
+  count = count;
+  longest = pad 64 0 (map (λ k. k.C) acc);
+  distance = pad 64 0 (map (λ k. k.T) acc);
+  deadline = pad 64 0 (map (λ k. k.D) acc);
+  slack = pad 64 0 (map (λ k. k.S) acc);
 }
 
-field_none : (f : Task → ℕ) → pad 64 (f no_task) [] ≡ map f (tasks_in [])
-field_none f = sym (map_pad f 64 no_task [])
+field_more : (f : rules.Task → ℕ) (acc : List rules.Task) (k : rules.Task) → length acc < 64
+    → set (pad 64 0 (map f acc)) (length acc) (f k) ≡ pad 64 0 (map f (acc ++ (k ∷ [])))
+field_more f acc k h =
+    ap (λ i. set (pad 64 0 (map f acc)) i (f k)) (sym (length-map acc f)) ∙ pad_snoc 64 0 (map f acc) (f k) (rw (length-map acc f) h)
+    ∙ ap (pad 64 0) (sym (map_append f acc (k ∷ [])))
 
-pub holds_none : {m timeout count : ℕ} {t : Table} → t ≡ blank_table m timeout count → Holds m timeout count (tasks_in []) t
-holds_none {m} {timeout} {count} e = rw e (record {
-  nodes = refl;
-  timeout_is = refl;
-  count_is = refl;
-  longest = field_none (λ k. k.longest);
-  distance = field_none (λ k. k.distance);
-  deadline = field_none (λ k. k.deadline);
-  slack = field_none (λ k. k.slack);
-})
+pub put_in : (m timeout count : ℕ) (acc : List rules.Task) (k : rules.Task) → length acc < 64
+    → with_task (so_far m timeout count acc) (length acc) (task_as k) ≡ so_far m timeout count (acc ++ (k ∷ []))
+put_in m timeout count acc k h = λ i. record {
+  nodes = m;
+  timeout = timeout;
+  count = count;
+  longest = field_more (λ k. k.C) acc k h i;
+  distance = field_more (λ k. k.T) acc k h i;
+  deadline = field_more (λ k. k.D) acc k h i;
+  slack = field_more (λ k. k.S) acc k h i;
+}
 
 -- and the table by value stands for them
 blank_row : rules.Task
@@ -120,14 +70,3 @@ table_back tab = ap (λ (l : List rules.Task). record { m = tab.m; timeout = tab
 
 pub task_takes : Takes read_task
 task_takes = then_takes number_takes λ C. then_takes number_takes λ T. then_takes number_takes λ D. then_takes number_takes λ S. give_takes
-
-abbrev pub task_of : Task → rules.Task
-task_of x = record { C = x.longest; T = x.distance; D = x.deadline; S = x.slack }
-
-pub task_tells : Tells (λ k next. task.Value (task_as k) next) task.Refused
-task_tells = record {
-  same_value = λ {x} {y} {m} {n} e. let f : task_as x ≡ task_as y = cc in ap task_of f;
-  same_place = λ {x} {y} {m} {n} e. cc;
-  same_stop = λ {m} {n} e. cc;
-  apart = λ {x} {m} {n} e. let z : ◌≡◌ {A = ℕ} 0 1 = cc in omega arith;
-}

@@ -15,7 +15,8 @@ use Rattle.table.specs.Table.{table_of}
 use Rattle.table.proofs.Facts.{ranges}
 use Rattle.common.specs.declared.Common.{Common}
 use Rattle.common.specs.Common.{common_of}
-use Rattle.round.specs.declared.Place.{Place}
+use Rattle.std.specs.Prelude as code
+use Rattle.round.specs.declared.Report.{Report}
 use Rattle.round.specs.declared.Round.{Round}
 use Rattle.round.specs.Round.{entry_of, entries_of, round_of, no_entry}
 use Rattle.judge.specs.declared.Prepared.{Prepared}
@@ -36,9 +37,9 @@ module _ {t : Table} {c : Common} {q : Round} (v : Ready t c q) where
     judged = classed_at p.ends p.before
 
     module _ (places : length q.entries ≡ 15) {all : List Classed}
-        (a : all ≡ pad 15 no_class (map (λ p. judged (entry_of p.entry)) (take q.entered q.entries))) where
-      one : Place → Classed
-      one p = judged (entry_of p.entry)
+        (a : all ≡ pad 15 no_class (map (λ e. judged (entry_of e)) (take q.entered q.entries))) where
+      one : code.Option Report → Classed
+      one e = judged (entry_of e)
 
       counted : length (map one (take q.entered q.entries)) ≡ q.entered
       counted = length-map (take q.entered q.entries) one ∙ length-take-le q.entered q.entries (omega (arith, few))
@@ -49,9 +50,9 @@ module _ {t : Table} {c : Common} {q : Round} (v : Ready t c q) where
       taken =
           ap₂ take (sym counted) a
           ∙ take_pad 15 no_class (map one (take q.entered q.entries))
-          ∙ ap (λ (f : Option rules.Report → Classed). map (λ (p : Place). f (entry_of p.entry)) (take q.entered q.entries)) (λ i x. classed_same v.checked v.given q.time d x i)
-          ∙ sym (map_map (λ (p : Place). entry_of p.entry) (classed_as (table_of t) (common_of c) q.time) (take q.entered q.entries))
-          ∙ ap (map (classed_as (table_of t) (common_of c) q.time)) (rows_take (λ (p : Place). entry_of p.entry) q.entries no_entry q.entered (omega (arith, few)))
+          ∙ ap (λ (f : Option rules.Report → Classed). map (λ (e : code.Option Report). f (entry_of e)) (take q.entered q.entries)) (λ i x. classed_same v.checked v.given q.time d x i)
+          ∙ sym (map_map entry_of (classed_as (table_of t) (common_of c) q.time) (take q.entered q.entries))
+          ∙ ap (map (classed_as (table_of t) (common_of c) q.time)) (rows_take entry_of q.entries no_entry q.entered (omega (arith, few)))
 
       pub judged_round : {j : Judgement} → j ≡ conclusion (table_of t) (common_of c) (take q.entered all) → j ≡ judgement (table_of t) (common_of c) (round_of q)
       judged_round p = p ∙ ap (conclusion (table_of t) (common_of c)) taken ∙ concluded (table_of t) (common_of c) (round_of q)

@@ -10,7 +10,7 @@ ghost use Rattle.table.specs.Table.{table_of, Checked};
 ghost use Rattle.common.specs.Common.{common_of, Given};
 ghost use Rattle.round.specs.Round.{entry_of, round_of};
 ghost use Rattle.judge.specs.Judgement.{conclusion, judgement, Ready};
-ghost use Rattle.judge.specs.Lent.{prepared, classed_at, Judgeable};
+ghost use Rattle.judge.specs.Lent.{prepared, classed_at};
 
 use class::Before;
 use common::Common;
@@ -19,7 +19,7 @@ use round::{Entry, Round};
 use table::Table;
 
 // The reply's classes, back-runner (15 if none) and notice, and the new B, W and O.
-#[derive(Clone, Copy)]
+#[derive(Clone, Copy, Debug, PartialEq, Eq)]
 pub struct Judgement {
     pub classes: [u8; 15],
     pub back: u64,
@@ -30,7 +30,7 @@ pub struct Judgement {
 }
 
 // What one walk over the order finds for all entries of a round: the projections as far as the bound is kept, and the numbers before the round.
-#[derive(Clone, Copy)]
+#[derive(Clone, Copy, Debug, PartialEq, Eq)]
 pub struct Prepared {
     pub ends: [u64; 257],
     pub before: Before,
@@ -70,6 +70,7 @@ pub fn prepare(t: Table, c: Common, time: u64) -> Prepared
 }
 
 // "Each entry gets the first class that fits": one entry of a round at `time`.
+#[tactic(auto, using(crate::proofs::Lent::class_same))]
 pub fn judge_entry(t: Table, c: Common, time: u64, entry: Entry) -> u8
     requires checked { Checked t }
     requires given { Given t c }
@@ -77,21 +78,19 @@ pub fn judge_entry(t: Table, c: Common, time: u64, entry: Entry) -> u8
     ensures { result ≡ class (table_of t) (common_of c) time (entry_of entry) }
 {
     let p = prepare(t, c, time);
-    let before = p.before;
-    class::class_of(&p.ends, before, entry)
+    class::class_of(&p.ends, p.before, entry)
 }
 
-// One entry of a prepared round, with what the passes over all entries read of it. Of what `prepare` gives it is what the rules say (`classed-same` in
+// One entry of a prepared round, with what the passes over all entries read of it. Of what `prepare` gives it is what the rules say (`classed_same` in
 // proofs/Lent.antt).
 pub fn classed_entry(p: Prepared, entry: Entry) -> Classed
-    requires { Judgeable p.before }
     ensures { result ≡ classed_at p.ends p.before (entry_of entry) }
 {
-    let before = p.before;
-    entries::with_class(&p.ends, before, entry)
+    entries::with_class(&p.ends, p.before, entry)
 }
 
 // What the passes give over the first n entries of a round, each with its class.
+#[tactic(auto, using(common::proofs::Records::length_is), unfolding(crate::specs::Judgement::conclusion))]
 pub fn conclude(t: Table, c: Common, all: [Classed; 15], n: usize) -> Judgement
     requires given { Given t c }
     requires n_bound { n ≤ 15 }
@@ -117,10 +116,7 @@ pub fn judge_round(t: Table, c: Common, q: Round) -> Judgement
     requires { Ready t c q }
     ensures { result ≡ judgement (table_of t) (common_of c) (round_of q) }
 {
-    let n = q.entered;
-    let entries = q.entries;
     let p = prepare(t, c, q.time);
-    let before = p.before;
-    let all = entries::judge_entries(&p.ends, before, entries, n);
-    conclude(t, c, all, n)
+    let all = entries::judge_entries(&p.ends, p.before, q.entries, q.entered);
+    conclude(t, c, all, q.entered)
 }

@@ -3,19 +3,12 @@
 
 ghost use Rattle.std.specs.Prelude.{◌≡◌, map, ◌+◌, ◌*◌, ◌^◌, ◌<◌, ◌≤◌, length, take};
 ghost use Rattle.rules.specs.Session.{printed, order, refusal, jobs_from};
-ghost use Rattle.lines.specs.Text.{PutWithin, Front};
+ghost use Rattle.lines.specs.Text.{Put, PutWithin, Front};
 ghost use Rattle.lines.specs.Lines.{Digits, job_text, jobs_of, numbers_text, round_text};
 
 use text::{put_field, put_text};
 
 pub mod text; // text.rt: bytes as they are, and numbers in decimal
-
-// A byte as a number: this asks no proof that it fits.
-fn wide(b: u8) -> u64
-    ensures { (b ≡ result) × (result < 256) }
-{
-    b as u64
-}
 
 // "A refusal prints `refused N`".
 pub fn refused_line(buf: &mut [u8; 8192], number: u64) -> usize
@@ -26,26 +19,23 @@ pub fn refused_line(buf: &mut [u8; 8192], number: u64) -> usize
 }
 
 // One "position:task", behind a blank. A task has at most three digits, so that 25 bytes are enough.
-fn put_job(buf: &mut [u8], from: usize, position: u64, task: u64) -> usize
-    requires { (task < 256) × (from + 42 ≤ length buf.old) }
+fn put_job(buf: &mut [u8], from: usize, position: u64, task: u8) -> usize
+    requires { from + 42 ≤ length buf.old }
     ensures { PutWithin 25 buf.old from (job_text position task) buf.new result }
 {
     let at = put_field(buf, from, b" ", position);
-    put_field(buf, at, b":", task)
+    put_field(buf, at, b":", u64::from(task))
 }
 
 // "position:task of each job kept, blank between": the job at the first place stands at the position past the base.
-fn put_jobs(buf: &mut [u8], from: usize, base: u64, tasks: &[u8], count: usize) -> usize
-    requires { (count ≤ length tasks.now) × (base + count < 2 ^ 64) × (from + 25 * count + 17 ≤ length buf.old) }
-    ensures { PutWithin (25 * count) buf.old from (jobs_from (base + 1) (jobs_of (take count tasks.now))) buf.new result }
+#[tactic(auto, unfolding(rules::specs::Session::jobs_from))]
+fn put_jobs(buf: &mut [u8], from: usize, base: u64, tasks: &[u8]) -> usize
+    requires { (base + length tasks.now < 2 ^ 64) × (from + 25 * length tasks.now + 17 ≤ length buf.old) }
+    ensures { PutWithin (25 * length tasks.now) buf.old from (jobs_from (base + 1) (jobs_of tasks.now)) buf.new result }
 {
     let mut at = from;
-    let mut position = base;
-    let mut k = 0;
-    while k < count {
-        position += 1;
-        at = put_job(buf, at, position, wide(tasks[k]));
-        k += 1;
+    for (k, task) in tasks.iter().enumerate() {
+        at = put_job(buf, at, base + 1 + k as u64, *task);
     }
     at
 }
@@ -56,23 +46,19 @@ pub fn order_line(buf: &mut [u8; 8192], base: u64, tasks: &[u8; 256], count: usi
     ensures { Front buf.old (printed (order (base + 1) (jobs_of (take count tasks.now)))) buf.new result }
 {
     let at = put_text(buf, 0, b"order");
-    let end = put_jobs(buf, at, base, tasks, count);
+    let end = put_jobs(buf, at, base, &tasks[..count]);
     put_text(buf, end, b"\n")
 }
 
 // "the m classes", a digit each.
-fn put_classes(buf: &mut [u8], from: usize, classes: &[u8], m: usize) -> usize
-    requires { (m ≤ length classes.now) × (from + m ≤ length buf.old) × Digits classes.now }
-    ensures { PutWithin m buf.old from (map (λ d. 48 + d) (take m classes.now)) buf.new result }
+fn put_classes(buf: &mut [u8], from: usize, classes: &[u8]) -> usize
+    requires { (from + length classes.now ≤ length buf.old) × Digits classes.now }
+    ensures { Put buf.old from (map (λ d. 48 + d) classes.now) buf.new result }
 {
-    let mut at = from;
-    let mut k = 0;
-    while k < m {
-        buf[at] = 48 + classes[k];
-        at += 1;
-        k += 1;
+    for (k, class) in classes.iter().enumerate() {
+        buf[from + k] = b'0' + class;
     }
-    at
+    from + classes.len()
 }
 
 // "Fields: r, O, B, L, W after the round"; "L is the last position".
@@ -103,6 +89,6 @@ pub fn round_line(
 {
     let mut at = put_numbers(buf, r, offset, base, last, start);
     at = put_text(buf, at, b" nodes ");
-    at = put_classes(buf, at, classes, m);
+    at = put_classes(buf, at, &classes[..m]);
     put_text(buf, at, b"\n")
 }

@@ -3,31 +3,22 @@ ghost use Rattle.std.specs.Prelude.{◌≡◌, ◌++◌, ◌+◌, ◌≤◌, len
 ghost use Rattle.rules.specs.Session.{decimal};
 ghost use Rattle.lines.specs.Text.{Put, PutWithin};
 
+#[tactic(auto, using(crate::proofs::Putting::put_part))]
 pub fn put_text(buf: &mut [u8], from: usize, text: &[u8]) -> usize
     requires { from + length text.now ≤ length buf.old }
     ensures { Put buf.old from text.now buf.new result }
 {
-    let mut at = from;
-    let mut i = 0;
-    while i < text.len() {
-        buf[at] = text[i];
-        at += 1;
-        i += 1;
-    }
-    at
+    let end = from + text.len();
+    buf[from..end].copy_from_slice(text);
+    end
 }
 
 // How many digits a number has: 0 has one.
+#[tactic(auto, using(crate::proofs::Decimal::length_is))]
 fn decimal_size(n: u64) -> usize
     ensures { result ≡ length (decimal n) }
 {
-    let mut rest = n;
-    let mut size: usize = 1;
-    while 10 <= rest {
-        rest /= 10;
-        size += 1;
-    }
-    size
+    n.max(1).ilog10() as usize + 1
 }
 
 // The last digit first, each at its place.
@@ -37,13 +28,11 @@ pub(crate) fn put_decimal(buf: &mut [u8], from: usize, n: u64) -> usize
 {
     let size = decimal_size(n);
     let mut rest = n;
-    let mut at = from + size - 1;
-    while 10 <= rest {
-        buf[at] = (48 + rest % 10) as u8;
+    // By index: of a slice that `iter_mut().rev()` has walked, a proof knows the length and not what stands there
+    for at in (from..from + size).rev() {
+        buf[at] = b'0' + (rest % 10) as u8;
         rest /= 10;
-        at -= 1;
     }
-    buf[at] = (48 + rest) as u8;
     from + size
 }
 

@@ -21,10 +21,9 @@ use Rattle.rules.specs.Judge as rules
 use Rattle.rules.specs.Close.{Closed, too_late, too_soon, ill_formed, close}
 use Rattle.rules.specs.Node.{Node, left_behind, other_round, as_sent, node_closed, node_close}
 use Rattle.rules.specs.Written.{write_record}
-use Rattle.round.specs.declared.Place.{Place}
-use Rattle.round.specs.Round.{release_of, entry_of, no_release, no_entry, round_of, release_as}
+use Rattle.round.specs.Round.{release_of, entry_of, no_release, no_entry, round_of, release_as, entry_as}
 use Rattle.round.proofs.Same.{entry_there, round_there}
-use Rattle.lists.specs.Lists.{release_places, place_as, entry_places, round_cut}
+use Rattle.lists.specs.Lists.{release_places, entry_places, round_cut}
 
 module _ (q : rules.Round) where
   abbrev pub cut : rules.Round
@@ -34,7 +33,7 @@ module _ (q : rules.Round) where
   same_listed = length_rows (λ i. release_of (get_or (release_places q.releases) i no_release)) (length q.releases)
 
   same_entered : length cut.entries ≡ length q.entries
-  same_entered = length_rows (λ i. entry_of (get_or (entry_places q.entries) i no_entry).entry) (length q.entries)
+  same_entered = length_rows (λ i. entry_of (get_or (entry_places q.entries) i no_entry)) (length q.entries)
 
   releases_within : length q.releases ≤ 64 → cut.releases ≡ q.releases
   releases_within h =
@@ -43,7 +42,7 @@ module _ (q : rules.Round) where
 
   entries_within : length q.entries ≤ 15 → cut.entries ≡ q.entries
   entries_within h =
-      ap (λ (es : List (Option rules.Report)). rows (λ i. entry_of (get_or (pad 15 no_entry (map place_as es)) i no_entry).entry) (length q.entries)) (take_all 15 q.entries h)
+      ap (λ (es : List (Option rules.Report)). rows (λ i. entry_of (get_or (pad 15 no_entry (map entry_as es)) i no_entry)) (length q.entries)) (take_all 15 q.entries h)
       ∙ ap (λ (k : rules.Round). k.entries) (round_there (record { r = 0; releases = []; entries = q.entries }) (omega arith) h)
 
   -- a record within the places is not cut
@@ -56,9 +55,9 @@ module _ (q : rules.Round) where
     where
       by : (15 < length q.entries) ⊎ (length q.entries ≤ 15) → get_or cut.entries k none ≡ get_or q.entries k none
       by (inl l) =
-          let n : length (map place_as (take 15 q.entries)) ≡ 15 = length-map (take 15 q.entries) place_as ∙ length-take-le 15 q.entries (omega arith) in
-          rows_at (λ i. entry_of (get_or (entry_places q.entries) i no_entry).entry) (length q.entries) k none (omega arith)
-          ∙ ap (λ (p : Place). entry_of p.entry) (getD_pad 15 no_entry (map place_as (take 15 q.entries)) k no_entry (omega arith) ∙ get_or-map place_as (take 15 q.entries) k none)
+          let n : length (map entry_as (take 15 q.entries)) ≡ 15 = length-map (take 15 q.entries) entry_as ∙ length-take-le 15 q.entries (omega arith) in
+          rows_at (λ i. entry_of (get_or (entry_places q.entries) i no_entry)) (length q.entries) k none (omega arith)
+          ∙ ap entry_of (getD_pad 15 no_entry (map entry_as (take 15 q.entries)) k no_entry (omega arith) ∙ get_or-map entry_as (take 15 q.entries) k none)
           ∙ entry_there (get_or (take 15 q.entries) k none)
           ∙ get_or-take 15 q.entries k none h
       by (inr l) = ap (λ (es : List (Option rules.Report)). get_or es k none) (entries_within l)

@@ -1,17 +1,18 @@
 -- A round record whose lists are words in the caller's memory: two for each release, four for each entry.
 use Rattle.std.specs.Prelude.{Bool, not, ℕ, ◌+◌, ◌*◌, ◌/◌, ◌%◌, length, take, get_or, if◌then◌else◌}
+use Rattle.std.specs.Prelude as code
 use Rattle.std.proofs.Math.Option.{Option, none, some}
 use mathlib.Core.List.{List, [], ◌∷◌, ◌++◌, map, foldr}
 use Rattle.laws.specs.Tests.{◌<?◌, ◌=?◌, found}
 use Rattle.laws.specs.Search.{lowest}
 use Rattle.laws.specs.Lists.{rows, pad}
-use Rattle.rules.specs.Answer.{Answer, done, refused, refused_by, refuse◌if◌else◌, ◌>>=◌}
+use Rattle.rules.specs.Answer.{Answer, done, refuse◌if◌else◌, ◌>>=◌}
 use Rattle.rules.specs.Judge as rules
+use Rattle.refusal.specs.Refusal.{told_as}
 use Rattle.round.specs.declared.Release.{Release}
-use Rattle.round.specs.declared.Place.{Place}
+use Rattle.round.specs.declared.Report.{Report}
 use Rattle.round.specs.declared.Round.{Round}
-use Rattle.round.specs.Round.{release_as, entry_as, no_release, no_entry, blank}
-use Rattle.lists.specs.declared.RoundIn.{RoundIn}
+use Rattle.round.specs.Round.{release_as, entry_as, no_release, no_entry}
 
 -- "releases (task, delay after r)": the words of one are its task and its delay.
 abbrev pub release_at : List ℕ → ℕ → rules.Release
@@ -50,11 +51,8 @@ round_at r ws vs = releases_at ws >>= λ xs. entries_at vs >>= λ es. done (reco
 abbrev pub release_places : List rules.Release → List Release
 release_places xs = pad 64 no_release (map release_as (take 64 xs))
 
-abbrev pub place_as : Option rules.Report → Place
-place_as e = record { entry = entry_as e }
-
-abbrev pub entry_places : List (Option rules.Report) → List Place
-entry_places es = pad 15 no_entry (map place_as (take 15 es))
+abbrev pub entry_places : List (Option rules.Report) → List (code.Option Report)
+entry_places es = pad 15 no_entry (map entry_as (take 15 es))
 
 -- A record by value. Its counts are the record's own: where a list is longer than the places they say so, and it is refused 15 like the record.
 abbrev pub round_cut : rules.Round → Round
@@ -66,14 +64,9 @@ round_cut q = record {
   entries = entry_places q.entries;
 }
 
--- Beside a refusal stands the blank record.
-abbrev pub no_round : ℕ → RoundIn
-no_round n = record { refusal = n; round = blank }
-
-abbrev pub told_round : Answer rules.Round → RoundIn
-told_round (done q) = record { refusal = 0; round = round_cut q }
-told_round (refused n) = no_round n
-told_round (refused_by n i) = no_round n
+-- What is told of a record: the record by value.
+abbrev pub told_round : Answer rules.Round → Answer Round
+told_round = told_as round_cut
 
 -- The way back: the words of each element, one behind the other.
 abbrev pub joined : {A : Type 0} → (A → List ℕ) → List A → List ℕ

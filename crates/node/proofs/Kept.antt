@@ -6,21 +6,21 @@ use native.Mathlib.Omega.{arith}
 use Rattle.rules.specs.Answer.{Answer, done, refused, refused_by}
 use Rattle.rules.specs.Node as rules
 use Rattle.rules.specs.Sound.{SoundNode}
-use Rattle.rules.proofs.Nodes.{new_node_sound, fresh_node_sound, start_keeps, finish_keeps, report_keeps, node_close_keeps}
+use Rattle.rules.proofs.Nodes.{fresh_node_sound, start_keeps, finish_keeps, report_keeps, node_close_keeps}
 use Rattle.table.specs.Table.{table_of, Checked}
 use Rattle.table.specs.declared.Table.{Table}
-use Rattle.table.proofs.Facts.{checked_fit, ranges}
+use Rattle.table.proofs.Facts.{checked_fit}
 use Rattle.round.specs.declared.Round.{Round}
 use Rattle.round.specs.Round as rounds
 use Rattle.common.specs.Common.{common_as}
 use Rattle.common.proofs.Records.{common_back}
 use Rattle.node.specs.declared.Node.{Node}
-use Rattle.node.specs.declared.Making.{Making}
-use Rattle.node.specs.declared.Starting.{Starting}
-use Rattle.node.specs.declared.Finishing.{Finishing}
-use Rattle.node.specs.declared.Reporting.{Reporting}
+use Rattle.refusal.specs.Refusal.{told_as}
+use Rattle.refusal.proofs.Answers.{done_same, done_refused}
+use Rattle.node.specs.declared.Started.{Started}
+use Rattle.node.specs.declared.Reported.{Reported}
 use Rattle.node.specs.declared.NodeClosing.{NodeClosing}
-use Rattle.node.specs.Node.{round_of, round_as, node_of, node_as, Given, making, starting, finishing, reporting, node_closing}
+use Rattle.node.specs.Node.{round_of, round_as, node_of, node_as, Given, starting, reported_as, reporting, closed_as, node_closing}
 
 open_back : (o : Option rules.Open) → round_of (round_as o) ≡ o
 open_back none = refl
@@ -38,6 +38,17 @@ node_back k =
       round = open_back k.round i;
     }
 
+-- what was told was done
+told_done : {A B : Type 0} (form : A → B) (a : Answer A) {b : B} → done b ≡ told_as form a → (x : A) × (a ≡ done x) × (b ≡ form x)
+told_done form (done x) p = (x, refl, done_same p)
+told_done form (refused k) p = absurd (done_refused p)
+told_done form (refused_by k i) p = absurd (done_refused p)
+
+start_done : (a : Answer rules.Started) {s : Started} → done s ≡ starting a → (x : rules.Started) × (a ≡ done x) × (s.node ≡ node_as x.node)
+start_done (done x) p = (x, refl, ap (λ (s : Started). s.node) (done_same p))
+start_done (refused k) p = absurd (done_refused p)
+start_done (refused_by k i) p = let z : ◌≡◌ {A = ℕ} 0 1 = cc in absurd (omega arith)
+
 module _ {t : Table} where
   pub given_node : {k : rules.Node} → SoundNode (table_of t) k → Given t (node_as k)
   given_node {k} s = record {
@@ -45,43 +56,25 @@ module _ {t : Table} where
     sound = subst (SoundNode (table_of t)) (sym (node_back k)) s;
   }
 
-  made : Checked t → (i : ℕ) (a : Answer rules.Node) → rules.fresh_node (table_of t) i ≡ a → Given t (making a).node
-  made c i (done n) e = given_node (fresh_node_sound (table_of t) i e)
-  made c i (refused k) e = given_node (new_node_sound (table_of t) 0 (omega (arith, (ranges c).some_node)))
-  made c i (refused_by k j) e = given_node (new_node_sound (table_of t) 0 (omega (arith, (ranges c).some_node)))
+  same_given : {k : rules.Node} {m : Node} → m ≡ node_as k → SoundNode (table_of t) k → Given t m
+  same_given e s = subst (Given t) (sym e) (given_node s)
 
-  pub fresh_kept : Checked t → (i : ℕ) {r : Making} → r ≡ making (rules.fresh_node (table_of t) i) → Given t r.node
-  fresh_kept c i p = subst (λ (r : Making). Given t r.node) (sym p) (made c i (rules.fresh_node (table_of t) i) refl)
+  pub fresh_kept : (i : ℕ) {m : Node} → done m ≡ told_as node_as (rules.fresh_node (table_of t) i) → Given t m
+  fresh_kept i p = let d = told_done node_as (rules.fresh_node (table_of t) i) p in same_given d.2 (fresh_node_sound (table_of t) i d.1)
 
   module _ {n : Node} (v : Given t n) where
-    started : (now : ℕ) (a : Answer rules.Started) → rules.start (table_of t) (node_of n) now ≡ a → Given t (starting n a).node
-    started now (done s) e = given_node (start_keeps v.sound now e)
-    started now (refused k) e = v
-    started now (refused_by k i) e = v
+    pub start_kept : (now : ℕ) {s : Started} → done s ≡ starting (rules.start (table_of t) (node_of n) now) → Given t s.node
+    start_kept now p = let d = start_done (rules.start (table_of t) (node_of n) now) p in same_given d.2 (start_keeps v.sound now d.1)
 
-    pub start_kept : (now : ℕ) {r : Starting} → r ≡ starting n (rules.start (table_of t) (node_of n) now) → Given t r.node
-    start_kept now p = subst (λ (r : Starting). Given t r.node) (sym p) (started now (rules.start (table_of t) (node_of n) now) refl)
+    pub finish_kept : (now : ℕ) {m : Node} → done m ≡ told_as node_as (rules.finish (node_of n) now) → Given t m
+    finish_kept now p = let d = told_done node_as (rules.finish (node_of n) now) p in same_given d.2 (finish_keeps v.sound now d.1)
 
-    finished : (now : ℕ) (a : Answer rules.Node) → rules.finish (node_of n) now ≡ a → Given t (finishing n a).node
-    finished now (done m) e = given_node (finish_keeps v.sound now e)
-    finished now (refused k) e = v
-    finished now (refused_by k i) e = v
+    pub report_kept : (time : ℕ) {s : Reported} → done s ≡ reporting (rules.report (table_of t) (node_of n) time) → Given t s.node
+    report_kept time p =
+        let d = told_done reported_as (rules.report (table_of t) (node_of n) time) p in
+        same_given (ap (λ (s : Reported). s.node) d.2) (report_keeps v.sound time d.1)
 
-    pub finish_kept : (now : ℕ) {r : Finishing} → r ≡ finishing n (rules.finish (node_of n) now) → Given t r.node
-    finish_kept now p = subst (λ (r : Finishing). Given t r.node) (sym p) (finished now (rules.finish (node_of n) now) refl)
-
-    reported : (time : ℕ) (a : Answer rules.Reported) → rules.report (table_of t) (node_of n) time ≡ a → Given t (reporting n a).node
-    reported time (done s) e = given_node (report_keeps v.sound time e)
-    reported time (refused k) e = v
-    reported time (refused_by k i) e = v
-
-    pub report_kept : (time : ℕ) {r : Reporting} → r ≡ reporting n (rules.report (table_of t) (node_of n) time) → Given t r.node
-    report_kept time p = subst (λ (r : Reporting). Given t r.node) (sym p) (reported time (rules.report (table_of t) (node_of n) time) refl)
-
-    closed : Checked t → (q : Round) (a : Answer rules.NodeClosed) → rules.node_close (table_of t) (node_of n) (rounds.round_of q) ≡ a → Given t (node_closing n a).node
-    closed c q (done k) e = given_node (node_close_keeps v.sound (checked_fit c) (rounds.round_of q) e)
-    closed c q (refused k) e = v
-    closed c q (refused_by k i) e = v
-
-    pub close_kept : Checked t → (q : Round) {r : NodeClosing} → r ≡ node_closing n (rules.node_close (table_of t) (node_of n) (rounds.round_of q)) → Given t r.node
-    close_kept c q p = subst (λ (r : NodeClosing). Given t r.node) (sym p) (closed c q (rules.node_close (table_of t) (node_of n) (rounds.round_of q)) refl)
+    pub close_kept : Checked t → (q : Round) {k : NodeClosing} → done k ≡ node_closing (rules.node_close (table_of t) (node_of n) (rounds.round_of q)) → Given t k.node
+    close_kept c q p =
+        let d = told_done closed_as (rules.node_close (table_of t) (node_of n) (rounds.round_of q)) p in
+        same_given (ap (λ (k : NodeClosing). k.node) d.2) (node_close_keeps v.sound (checked_fit c) (rounds.round_of q) d.1)

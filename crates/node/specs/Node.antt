@@ -1,8 +1,8 @@
 -- What a node by value stands for, and what the answers say.
-use Rattle.std.specs.Prelude.{◌≡◌, Bool, true, false, ◌&&◌, ◌||◌, [], ℕ, ◌+◌, ◌^◌, ◌≤◌, ◌<◌, max, if◌then◌else◌}
+use Rattle.std.specs.Prelude as code
+use Rattle.std.specs.Prelude.{◌≡◌, Some, None, Bool, true, false, ◌&&◌, ◌||◌, [], ℕ, ◌+◌, ◌^◌, ◌≤◌, ◌<◌, max, if◌then◌else◌}
 use Rattle.std.proofs.Math.Option.{Option, none, some}
 use Rattle.laws.specs.Tests.{◌<?◌, ◌≤?◌, ◌=?◌, maybe}
-use Rattle.laws.specs.Lists.{pad}
 use Rattle.rules.specs.Answer.{Answer, done, refused, refused_by, refuse◌if◌else◌, refuse◌naming◌else◌}
 use Rattle.rules.specs.Judge as judges
 use Rattle.rules.specs.Close.{too_late}
@@ -19,27 +19,16 @@ use Rattle.common.specs.declared.Common.{Common}
 use Rattle.common.specs.Common.{common_of, common_as}
 use Rattle.common.specs.Common as values
 use Rattle.close.specs.declared.Closing.{Closing}
-use Rattle.close.specs.declared.Outcome.TheVariants as outcome
-use Rattle.node.specs.declared.Opening.{Opening}
-use Rattle.node.specs.declared.Opening.TheVariants as opening
+use Rattle.refusal.specs.Refusal.{told_as}
+use Rattle.node.specs.declared.Sent.{Sent}
 use Rattle.node.specs.declared.Node.{Node}
-use Rattle.node.specs.declared.MakeAnswer.TheVariants as make
-use Rattle.node.specs.declared.Making.{Making}
-use Rattle.node.specs.declared.StartAnswer.TheVariants as starts
-use Rattle.node.specs.declared.Starting.{Starting}
-use Rattle.node.specs.declared.FinishAnswer.TheVariants as finish
-use Rattle.node.specs.declared.Finishing.{Finishing}
-use Rattle.node.specs.declared.ReportAnswer.TheVariants as report
-use Rattle.node.specs.declared.Reporting.{Reporting}
-use Rattle.node.specs.declared.Permission.{Permission}
-use Rattle.node.specs.declared.Permission.TheVariants as permission
+use Rattle.node.specs.declared.Started.{Started}
+use Rattle.node.specs.declared.Reported.{Reported}
 use Rattle.node.specs.declared.NodeClosing.{NodeClosing}
-use Rattle.node.specs.declared.Check.{Check}
-use Rattle.node.specs.declared.Check.TheVariants as check
 
-abbrev pub round_of : Opening → Option rules.Open
-round_of opening.Shut = none
-round_of (opening.Open o) = some (record { r = o.time; sent = sent_report o.report })
+abbrev pub round_of : code.Option Sent → Option rules.Open
+round_of None = none
+round_of (Some o) = some (record { r = o.time; sent = sent_report o.report })
 
 abbrev pub node_of : Node → rules.Node
 node_of n = record {
@@ -52,9 +41,9 @@ node_of n = record {
   round = round_of n.round;
 }
 
-abbrev pub round_as : Option rules.Open → Opening
-round_as none = opening.Shut
-round_as (some o) = opening.Open (record { time = o.r; report = report_as o.sent })
+abbrev pub round_as : Option rules.Open → code.Option Sent
+round_as none = None
+round_as (some o) = Some (record { time = o.r; report = report_as o.sent })
 
 abbrev pub node_as : rules.Node → Node
 node_as n = record {
@@ -77,12 +66,6 @@ pub record Ours (n : Node) : Type 0 where
   pub t : Table
   pub given : Given t n
 
--- What is answered where a node is made. A refusal has no node to give back: the fresh node of number 0 stands beside it.
-abbrev pub making : Answer rules.Node → Making
-making (done n) = record { answer = make.Made; node = node_as n }
-making (refused k) = record { answer = make.Refused k; node = node_as (rules.new_node 0) }
-making (refused_by k i) = record { answer = make.Refused k; node = node_as (rules.new_node 0) }
-
 -- "beyond both O and the lock": what `beyond_lock` of the rules asks, of the numbers that it reads.
 abbrev pub beyond_lock_at : Option rules.Open → ℕ → ℕ → Bool
 beyond_lock_at o offset position = maybe false (λ o. (offset <? position) && (rules.lock o <? position)) o
@@ -91,23 +74,21 @@ beyond_lock_at o offset position = maybe false (λ o. (offset <? position) && (r
 abbrev pub broken_at : tables.Table → commons.Common → Bool → ℕ → ℕ → Option ℕ
 broken_at tab c opened position now = if opened || (position ≤? c.O) then none else breaker tab c position now
 
-pub record Lockable (o : Opening) : Type 0 where
+pub record Lockable (o : code.Option Sent) : Type 0 where
   pub small : (s : rules.Open) → round_of o ≡ some s → rules.lock s < 2 ^ 64
 
 -- "start 3 to 9; finish 3, 4, 5, 10; report 3, 4, 5, 11": the first three, in that order.
 abbrev pub clock_rule : ℕ → ℕ → ℕ → ℕ → Answer (Unit {0})
 clock_rule latest progress base now = refuse 3 if too_late now else refuse 4 if now <? latest else refuse 5 if progress <? base else done tt
 
-abbrev pub check_of : Answer (Unit {0}) → Check
-check_of (done x) = check.Passes
-check_of (refused n) = check.Refused n
-check_of (refused_by n i) = check.Refused n
+abbrev pub started_as : rules.Started → Started
+started_as s = record { task = s.named; node = node_as s.node }
 
--- A start's answer, by document 01: "The reply to an accepted start names the task"; a refusal leaves the node as it stood.
-abbrev pub starting : Node → Answer rules.Started → Starting
-starting n (done s) = record { answer = starts.Starts s.named; node = node_as s.node }
-starting n (refused k) = record { answer = starts.Refused k; node = n }
-starting n (refused_by k i) = record { answer = starts.Waits i; node = n }
+-- A start's answer, by document 01: "The reply to an accepted start names the task".
+abbrev pub starting : Answer rules.Started → Answer Started
+starting (done s) = done (started_as s)
+starting (refused k) = refused k
+starting (refused_by k i) = refused_by k i
 
 -- A node that is asked, in time and not left behind, for its next position.
 pub record Asking (t : Table) (n : Node) (now : ℕ) : Type 0 where
@@ -125,20 +106,15 @@ permission_rule tab n now =
     else refuse 9 naming rules.broken_now tab n now
     else done tt
 
-abbrev pub permission_of : Answer (Unit {0}) → Permission
-permission_of (done x) = permission.Granted
-permission_of (refused k) = permission.Refused k
-permission_of (refused_by k i) = permission.Waits i
-
 -- A node whose next position exists.
 pub record Startable (n : Node) : Type 0 where
   pub ours : Ours n
   pub base : n.common.base ≤ n.progress
   pub more : n.progress < L (common_of n.common)
 
-abbrev pub started_now : Node → ℕ → Starting
+abbrev pub started_now : Node → ℕ → Started
 started_now n now = record {
-  answer = starts.Starts (job_at (common_of n.common) (n.progress + 1)).task_of;
+  task = (job_at (common_of n.common) (n.progress + 1)).task_of;
   node = record {
     number = n.number;
     common = n.common;
@@ -149,11 +125,6 @@ started_now n now = record {
     round = n.round;
   };
 }
-
-abbrev pub finishing : Node → Answer rules.Node → Finishing
-finishing n (done m) = record { answer = finish.Finished; node = node_as m }
-finishing n (refused k) = record { answer = finish.Refused k; node = n }
-finishing n (refused_by k i) = record { answer = finish.Refused k; node = n }
 
 -- What may be asked of a position that a node has reached, at a time.
 pub record Reachable (t : Table) (c : Common) (progress r : ℕ) : Type 0 where
@@ -168,16 +139,17 @@ abbrev pub next_soon_at : tables.Table → commons.Common → ℕ → ℕ → Bo
 next_soon_at tab c progress r =
     (progress + 1 ≤? L c) && ((progress + 1 ≤? c.O) || within_bound tab c (progress + 1) r) && (projection tab c progress <? r + tab.timeout)
 
-abbrev pub reporting : Node → Answer rules.Reported → Reporting
-reporting n (done s) = record { answer = report.Sends (report_as s.sent); node = node_as s.node }
-reporting n (refused k) = record { answer = report.Refused k; node = n }
-reporting n (refused_by k i) = record { answer = report.Refused k; node = n }
+abbrev pub reported_as : rules.Reported → Reported
+reported_as s = record { report = report_as s.sent; node = node_as s.node }
 
-abbrev pub reported_now : Node → ℕ → ℕ → Reporting
+abbrev pub reporting : Answer rules.Reported → Answer Reported
+reporting = told_as reported_as
+
+abbrev pub reported_now : Node → ℕ → ℕ → Reported
 reported_now n r run =
     let e : Report = record { progress = n.progress; completed = n.completed; run = run } in
     record {
-      answer = report.Sends e;
+      report = e;
       node = record {
         number = n.number;
         common = n.common;
@@ -185,7 +157,7 @@ reported_now n r run =
         completed = n.completed;
         running = n.running;
         latest = r;
-        round = opening.Open (record { time = r; report = e });
+        round = Some (record { time = r; report = e });
       };
     }
 
@@ -193,34 +165,22 @@ reported_now n r run =
 abbrev pub own_rule : rules.Node → judges.Round → Answer (Unit {0})
 own_rule n q = refuse 5 if rules.left_behind n else refuse 12 if rules.other_round n q else refuse 13 if rules.not_as_sent n q else done tt
 
--- "A refusal gives its number and changes nothing": the node as it stood, and an empty reply.
-abbrev pub not_closed : Node → ℕ → NodeClosing
-not_closed n k = record {
-  outcome = outcome.Refused k;
-  node = n;
-  classes = pad 15 0 [];
-  back = 15;
-  majority = false;
-  left = rules.left_behind (node_of n);
-}
-
 -- A close's answer: the reply as the common record's, and whether the node given back is left behind.
-abbrev pub node_closing : Node → Answer rules.NodeClosed → NodeClosing
-node_closing n (done k) = record {
-  outcome = outcome.Accepted;
+abbrev pub closed_as : rules.NodeClosed → NodeClosing
+closed_as k = record {
   node = node_as k.node;
   classes = k.reply.classes;
   back = k.reply.back;
   majority = k.reply.notice;
   left = rules.left_behind k.node;
 }
-node_closing n (refused k) = not_closed n k
-node_closing n (refused_by k i) = not_closed n k
+
+abbrev pub node_closing : Answer rules.NodeClosed → Answer NodeClosing
+node_closing = told_as closed_as
 
 -- The same from what the common record answered, where it accepted.
 abbrev pub closed_now : Node → Closing → ℕ → NodeClosing
 closed_now n c end = record {
-  outcome = outcome.Accepted;
   node = record {
     number = n.number;
     common = c.common;
@@ -228,7 +188,7 @@ closed_now n c end = record {
     completed = n.completed;
     running = n.running;
     latest = max n.latest end;
-    round = opening.Shut;
+    round = None;
   };
   classes = c.classes;
   back = c.back;

@@ -12,7 +12,6 @@ use Rattle.laws.specs.Tests.{◌<?◌, ◌=?◌}
 use Rattle.laws.proofs.Lists.{drop_here}
 use Rattle.rules.specs.Answer.{Answer, done, refused, refused_by, refuse◌if◌else◌}
 use Rattle.rules.specs.Numbers.{Read, after, give, groups_after}
-use Rattle.number.specs.declared.NumberRead.TheVariants as number
 use Rattle.number.specs.Numbers.{number_read, last_group}
 
 -- at a place of a list, with k groups before it
@@ -60,7 +59,7 @@ unfolding on_top
 on_top_last s value scale k b i h = by ((0 <? k) && (b =? 0))
   where
     by : (t : Bool) → number_read s (after (refuse 19 if t else give b (drop (i + 1) s)) (λ v. give (value + scale * v)))
-        ≡ (if t then number.Refused 19 else number.Value (value + scale * b) (i + 1))
+        ≡ (if t then refused 19 else done (value + scale * b, i + 1))
     by true = refl
     by false =
         let e : length s - length (drop (i + 1) s) ≡ i + 1 = rw length-drop (omega arith) in

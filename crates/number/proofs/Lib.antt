@@ -1,8 +1,9 @@
 -- Laws that the proofs of the functions share, here and wherever numbers are read.
 pub mod Groups
+pub mod Sizes
 pub mod Putting
 pub mod Told
-pub mod Two
+pub mod One
 pub mod After
 pub mod Listing
 pub mod Settled

@@ -12,12 +12,12 @@ use Rattle.rules.specs.Numbers.{number}
 use Rattle.rules.specs.Written.{Wrote, write_number}
 use Rattle.rules.specs.RoundTrips.{Bytes}
 use Rattle.rules.proofs.RoundTrips.{number_round_trips}
-use Rattle.number.specs.declared.NumberRead.{NumberRead}
-use Rattle.number.specs.declared.NumberRead.TheVariants as number
-use Rattle.number.specs.declared.Written.{Written}
-use Rattle.number.specs.declared.Written.TheVariants as written
+use Rattle.std.specs.Prelude.{Result, Ok}
+use Rattle.refusal.specs.declared.Refusal.{Refusal}
+use Rattle.refusal.specs.Refusal.{answer_of}
+use Rattle.refusal.proofs.Same.{answer_same}
 use Rattle.number.specs.Numbers.{number_read, written_of, left_from}
-use Rattle.number.proofs.Two.{one_done}
+use Rattle.number.proofs.One.{one_done}
 use Rattle.number.proofs.Settled.{NumberWritten}
 
 -- a writing that is told as done was done
@@ -26,7 +26,7 @@ pub record Put (a : Answer Wrote) (n : ℕ) : Type 0 where
   pub is : a ≡ done wrote
   pub count : wrote.bytes ≡ n
 
-pub put_of : (a : Answer Wrote) {n : ℕ} → written.Bytes n ≡ written_of a → Put a n
+pub put_of : (a : Answer Wrote) {n : ℕ} → done n ≡ written_of a → Put a n
 put_of (done w) e = record { wrote = w; is = refl; count = cc }
 put_of (refused m) e = let z : ◌≡◌ {A = ℕ} 0 1 = cc in absurd (omega arith)
 put_of (refused_by m i) e = let z : ◌≡◌ {A = ℕ} 0 1 = cc in absurd (omega arith)
@@ -38,8 +38,8 @@ bytes_drop (suc n) (b ∷ s) z = bytes_drop n s z.1
 
 -- a number that was written at a place is read again from there
 pub number_read_again :
-    {bytes : List ℕ} {from value n : ℕ} {left : List ℕ} → NumberWritten bytes from value (written.Bytes n) left →
-    {r : NumberRead} → r ≡ number_read left (number (drop from left)) → r ≡ number.Value value (from + n)
+    {bytes : List ℕ} {from value n : ℕ} {left : List ℕ} → NumberWritten bytes from value (Ok n) left →
+    {r : Result (ℕ × ℕ) Refusal} → answer_of r ≡ number_read left (number (drop from left)) → r ≡ Ok (value, from + n)
 number_read_again {bytes} {from} {value} {n} {left} w e =
     let p : Put (write_number value (drop from bytes)) n = put_of (write_number value (drop from bytes)) w.reply in
     let b : left ≡ take from bytes ++ p.wrote.buffer = w.exit ∙ ap (left_from from bytes) p.is in
@@ -53,16 +53,16 @@ number_read_again {bytes} {from} {value} {n} {left} w e =
     let d : drop from left ≡ p.wrote.buffer = ap (drop from) b ∙ drop_at (take from bytes) p.wrote.buffer from f in
     let k : length left ≡ from + length p.wrote.buffer = ap length b ∙ length-append (take from bytes) p.wrote.buffer ∙ rw f in
     let u : length left - length rest ≡ from + n = omega (arith, i, length-drop from bytes, p.count) in
-    e ∙ ap (λ (x : List ℕ). number_read left (number x)) d ∙ rw (t.same value (drop from bytes) p.is, u)
+    answer_same (e ∙ ap (λ (x : List ℕ). number_read left (number x)) d ∙ rw (t.same value (drop from bytes) p.is, u))
 
 -- a number that was read at a place is written again as the very bytes, wherever there is room
 pub number_written_again :
-    (bytes : List ℕ) (from : ℕ) → Bytes bytes → {r : NumberRead} {v next : ℕ} → r ≡ number_read bytes (number (drop from bytes)) → r ≡ number.Value v next →
-    {lent : List ℕ} {at : ℕ} {p : Written} {left : List ℕ} → next - from ≤ length (drop at lent) → NumberWritten lent at v p left →
-    (p ≡ written.Bytes (next - from)) × (left ≡ take at lent ++ over (take (next - from) (drop from bytes)) (drop at lent))
+    (bytes : List ℕ) (from : ℕ) → Bytes bytes → {r : Result (ℕ × ℕ) Refusal} {v next : ℕ} → answer_of r ≡ number_read bytes (number (drop from bytes)) → r ≡ Ok (v, next) →
+    {lent : List ℕ} {at : ℕ} {p : Result ℕ Refusal} {left : List ℕ} → next - from ≤ length (drop at lent) → NumberWritten lent at v p left →
+    (p ≡ Ok (next - from)) × (left ≡ take at lent ++ over (take (next - from) (drop from bytes)) (drop at lent))
 number_written_again bytes from z {r} {v} {next} e g {lent} {at} h w =
-    let d = one_done bytes from e g in
+    let d = one_done bytes from e (ap answer_of g) in
     let s = number_round_trips.alone.some_byte (drop from bytes) d.is in
     let u : length (drop from bytes) - length (drop next bytes) ≡ next - from = omega (arith, d.on, length-drop from bytes, length-drop next bytes) in
     let t = rw u at (number_round_trips.written_again.same (drop from bytes) (drop at lent) (bytes_drop from bytes z) d.is (omega arith)) in
-    (w.reply ∙ ap written_of t, w.exit ∙ ap (left_from at lent) t)
+    (answer_same (w.reply ∙ ap written_of t), w.exit ∙ ap (left_from at lent) t)

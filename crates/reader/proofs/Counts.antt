@@ -1,15 +1,19 @@
 -- A count that was read is within its limit and its room, and so is what a record that was read lists: it fits its places, by value and lent.
-use mathlib.Core.Path.{◌≡◌, refl, ap}
+use mathlib.Core.Path.{◌≡◌, refl, sym, ap}
 use mathlib.Core.List.{List}
 use Prim.Native.Nat.{ℕ, zero, suc, ◌≤◌}
 use native.Mathlib.Omega.{arith}
 use borrow.Author.Tests.{ltb-false}
-use lib.ListN.{length}
+use lib.ListN.{length, drop}
 use Rattle.laws.specs.Tests.{◌<?◌}
 use Rattle.rules.specs.Judge as rules
 use Rattle.rules.specs.Numbers.{Read, Reads}
 use Rattle.rules.specs.Written.{times, counted, read_record}
-use Rattle.rules.proofs.Reading.{Gives, so, gives_after, gives_refuse, Takes, number_takes, release_takes, entry_takes}
+use Rattle.rules.specs.Answer.{done}
+use Rattle.rules.proofs.Reading.{Gives, so, gives_at, gives_after, gives_refuse, Takes, number_takes, release_takes, entry_takes, then_takes, counted_takes}
+use Rattle.number.specs.Numbers.{number_read}
+use Rattle.number.proofs.Told.{Done, told_value}
+use Rattle.reader.specs.Records.{count_in}
 
 pub record Counted (limit room n : ℕ) : Type 0 where
   pub few : n ≤ limit
@@ -19,7 +23,7 @@ pub counted_so : (limit room n : ℕ) (s : List ℕ) → Gives (λ (x : Read ℕ
 counted_so limit room n s =
     gives_refuse 15 (limit <? n) λ e. gives_refuse 21 (room <? n) λ f. so (record { few = ltb-false limit n e; fits = ltb-false room n f })
 
-times_many : {A : Type 0} (n : ℕ) {rd : Reads A} → Takes rd → (s : List ℕ) → Gives (λ (x : Read (List A)). length x.value ≡ n) (times n rd s)
+pub times_many : {A : Type 0} (n : ℕ) {rd : Reads A} → Takes rd → (s : List ℕ) → Gives (λ (x : Read (List A)). length x.value ≡ n) (times n rd s)
 unfolding times
 times_many zero h s = so refl
 times_many (suc n) h s = gives_after _ (h.from s) λ x p. gives_after _ (times_many n h x.rest) λ xs e. so (ap suc e)
@@ -39,3 +43,19 @@ module _ (j k : ℕ) where
         listed = record { few = omega (arith, a.few, b); fits = omega (arith, a.fits, b) };
         entered = record { few = omega (arith, d.few, e); fits = omega (arith, d.fits, e) };
       })
+
+pub count_takes : (limit room : ℕ) → Takes (count_in limit room)
+count_takes limit room = then_takes number_takes (counted_takes limit room)
+
+pub counts : (limit room : ℕ) (s : List ℕ) → Gives (λ (x : Read ℕ). Counted limit room x.value) (count_in limit room s)
+counts limit room s = gives_after (counted limit room) (number_takes.from s) λ x p. counted_so limit room x.value x.rest
+
+-- a count as it is told
+module _ (limit room : ℕ) (s : List ℕ) (from : ℕ) {count next : ℕ} (p : done (count, next) ≡ number_read s (count_in limit room (drop from s))) where
+  pub count_done : Done s (count_in limit room (drop from s)) count next
+  count_done = let t = told_value (λ v. v) (count_takes limit room) s from (sym p) in rw t.same at t.was
+
+  pub count_few : count ≤ limit
+  count_few =
+      let w : Gives (λ (x : Read ℕ). Counted limit room x.value) (done (record { value = count; rest = drop next s })) = rw count_done.is at (counts limit room (drop from s)) in
+      (gives_at w).few

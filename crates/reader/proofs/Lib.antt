@@ -1,9 +1,10 @@
--- Laws that the proofs of the functions share.
+-- Laws of the readers.
 pub mod Counts
-pub mod Lists
-pub mod Endings
-pub mod Elements
+pub mod Places
 pub mod Parts
+pub mod Listing
+pub mod Lists
+pub mod Within
 pub mod Rooms
 pub mod Given
 pub mod Settled

@@ -1,107 +1,98 @@
--- A list behind its count, read into an array: once for every kind of element.
-use mathlib.Core.Path.{◌≡◌, sym, ap, ◌∙◌}
-use mathlib.Core.List.{List, [], map}
-use Prim.Native.Nat.{ℕ, ◌+◌, ◌≤◌, ◌<◌}
+-- A list behind its count, from what is told of its reading in the form that its elements have here.
+use mathlib.Core.Path.{◌≡◌, refl, sym, ap, ◌∙◌}
+use mathlib.Core.List.{List, [], ◌∷◌, ◌++◌, map}
+use Prim.Native.Nat.{ℕ, zero, suc, ◌-◌, ◌≤◌}
 use native.Mathlib.Omega.{arith}
-use lib.ListN.{length, drop, set}
-use Rattle.laws.specs.Lists.{pad}
-use Rattle.rules.specs.Answer.{Answer, done}
-use Rattle.rules.specs.Numbers.{Read, Reads, ◌>>=◌}
-use Rattle.rules.specs.Written.{times, counted}
-use Rattle.rules.proofs.Reading.{Gives, gives_at, gives_after, Takes, number_takes, then_takes, counted_takes, times_takes}
-use Rattle.number.specs.declared.NumberRead.{NumberRead}
-use Rattle.number.specs.declared.NumberRead.TheVariants as number
-use Rattle.number.specs.Numbers.{told, number_read}
-use Rattle.number.proofs.Told.{Tells, Done, told_value, told_stop}
-use Rattle.number.proofs.Two.{number_tells}
-use Rattle.number.proofs.Listing.{Listing, listing_start, listing_done, listing_stop, listing_more}
-use Rattle.reader.specs.declared.Ended.{Ended}
-use Rattle.reader.specs.declared.Ended.TheVariants as ended
-use Rattle.reader.specs.Records.{count_in}
-use Rattle.reader.proofs.Counts.{Counted, counted_so}
+use lib.ListN.{length, drop, replicate, length-map}
+use Rattle.std.proofs.lemmas.List.{drop-replicate}
+use Rattle.laws.specs.Lists.{over, pad}
+use Rattle.laws.proofs.Lists.{length_pad}
+use Rattle.rules.specs.Answer.{Answer, done, refused, refused_by}
+use Rattle.rules.specs.Numbers.{Read, Reads, after}
+use Rattle.rules.specs.Written.{times}
+use Rattle.rules.proofs.Reading.{Gives, so, stop, gives_after, Takes, then_takes, times_takes}
+use Rattle.number.specs.Numbers.{placed}
+use Rattle.number.proofs.Told.{Done, told_value, told_stop}
+use Rattle.reader.specs.Formed.{formed, in_form}
+use Rattle.reader.specs.Records.{count_in, list_in}
+use Rattle.reader.proofs.Counts.{count_takes, counts, times_many}
 
--- a kind of element: its reading, its form in the code, how one is told, and how a list of so many at most is handed back
-pub record Kind (A C E B : Type 0) : Type 0 where
-  pub rd : Reads A
-  pub takes : Takes rd
-  pub form : A → C
-  pub back : C → A
-  pub here : (y : C) → form (back y) ≡ y
-  pub value : C → ℕ → E
-  pub halt : ℕ → E
-  pub tells : Tells (λ x next. value (form x) next) halt
-  pub limit : ℕ
-  pub blank : C
-  pub make : List C → ℕ → Ended → B
+over_pad : {A : Type 0} (n : ℕ) (blank : A) (xs : List A) → over xs (pad n blank []) ≡ pad n blank xs
+unfolding pad
+over_pad n blank xs =
+    let e : n - 0 - length xs ≡ n - length xs = omega arith in
+    ap (λ l. xs ++ l) (drop-replicate (length xs) (n - 0) blank ∙ ap (λ k. replicate k blank) e)
 
-count_takes : (limit room : ℕ) → Takes (count_in limit room)
-count_takes limit room = then_takes number_takes (counted_takes limit room)
+-- element by element, and as a list
+times_formed : {A B : Type 0} (form : A → B) (rd : Reads A) (n : ℕ) (s : List ℕ) → times n (in_form form rd) s ≡ formed (map form) (times n rd s)
+unfolding times
+times_formed form rd zero s = refl
+times_formed {A = A} {B = B} form rd (suc n) s = by (λ t. times_formed form rd n t) (rd s)
+  where
+    behind : (x : A) (a : Answer (Read (List A))) → after (formed (map form) a) (λ ys t. done (record { value = form x ∷ ys; rest = t }))
+        ≡ formed (map form) (after a (λ xs t. done (record { value = x ∷ xs; rest = t })))
+    behind x (done xs) = refl
+    behind x (refused n) = refl
+    behind x (refused_by n i) = refl
 
-counts : (limit room : ℕ) (s : List ℕ) → Gives (λ (x : Read ℕ). Counted limit room x.value) (count_in limit room s)
-counts limit room s = gives_after (counted limit room) (number_takes.from s) λ x p. counted_so limit room x.value x.rest
+    by : ((t : List ℕ) → times n (in_form form rd) t ≡ formed (map form) (times n rd t)) → (a : Answer (Read A)) → after (formed form a) (λ y t. after (times n (in_form form rd) t) (λ ys t. done (record { value = y ∷ ys; rest = t })))
+        ≡ formed (map form) (after a (λ x t. after (times n rd t) (λ xs t. done (record { value = x ∷ xs; rest = t }))))
+    by rec (done x) = ap (λ a. after a (λ ys t. done (record { value = form x.value ∷ ys; rest = t }))) (rec x.rest) ∙ behind x.value (times n rd x.rest)
+    by rec (refused m) = refl
+    by rec (refused_by m i) = refl
 
-module _ {A C E B : Type 0} (k : Kind A C E B) where
-  -- what is told of one element, and of a list: in its places, or none beside a refusal
-  abbrev pub one : List ℕ → Answer (Read A) → E
-  one = told (λ x next. k.value (k.form x) next) k.halt
+list_formed : {A B : Type 0} (form : A → B) (rd : Reads A) (limit room : ℕ) (s : List ℕ) → list_in limit room (in_form form rd) s ≡ formed (map form) (list_in limit room rd s)
+list_formed form rd limit room s = by (count_in limit room s)
+  where
+    by : (a : Answer (Read ℕ)) → after a (λ n. times n (in_form form rd)) ≡ formed (map form) (after a (λ n. times n rd))
+    by (done n) = times_formed form rd n.value n.rest
+    by (refused n) = refl
+    by (refused_by n i) = refl
 
-  abbrev pub some : List A → ℕ → B
-  some xs next = k.make (pad k.limit k.blank (map k.form xs)) (length xs) (ended.Next next)
+placed_formed : {A B C : Type 0} (form : A → B) (value : B → C) (s : List ℕ) (a : Answer (Read A)) → placed value s (formed form a) ≡ placed (λ x. value (form x)) s a
+placed_formed form value s (done x) = refl
+placed_formed form value s (refused n) = refl
+placed_formed form value s (refused_by n i) = refl
 
-  abbrev pub no_list : ℕ → B
-  no_list n = k.make (pad k.limit k.blank []) 0 (ended.Refused n)
+-- a list is within its limit
+list_few : {A : Type 0} (limit room : ℕ) {rd : Reads A} → Takes rd → (s : List ℕ) → Gives (λ (x : Read (List A)). length x.value ≤ limit) (list_in limit room rd s)
+list_few {A = A} limit room k s = gives_after _ (counts limit room s) λ n c. gives_after' c.few (times_many n.value k n.rest)
+  where
+    gives_after' : {m : ℕ} {a : Answer (Read (List A))} → m ≤ limit → Gives (λ (x : Read (List A)). length x.value ≡ m) a → Gives (λ (x : Read (List A)). length x.value ≤ limit) a
+    gives_after' h (so e) = so (omega arith)
+    gives_after' h stop = stop
 
-  abbrev pub many : List ℕ → Answer (Read (List A)) → B
-  many = told some no_list
+-- what was read, and what stands in the lent list
+pub record Has {A B : Type 0} (form : A → B) (rd : Reads A) (limit room : ℕ) (blank : B) (s : List ℕ) (at : ℕ) (left : List B) (many next : ℕ) : Type 0 where
+  pub xs : List A
+  pub was : Done s (list_in limit room rd (drop at s)) xs next
+  pub many_is : length xs ≡ many
+  pub holds : left ≡ pad limit blank (map form xs)
 
-  -- a list behind its count
-  abbrev pub list_in : ℕ → Reads (List A)
-  list_in room = count_in k.limit room >>= λ n. times n k.rd
+module _ {A B : Type 0} (form : A → B) {rd : Reads A} (k : Takes rd) (limit room : ℕ) (blank : B) (s : List ℕ) (at : ℕ) where
+  list_takes : Takes (list_in limit room rd)
+  list_takes = then_takes (count_takes limit room) (λ n. times_takes n k)
 
-  pub list_takes : (room : ℕ) → Takes (list_in room)
-  list_takes room = then_takes (count_takes k.limit room) (λ n. times_takes n k.takes)
+  module _ {lent : List B} (e : lent ≡ pad limit blank []) where
+    long : length lent ≡ limit
+    long = ap length e ∙ length_pad limit blank [] (omega arith)
 
-  -- so many elements, turn by turn of the loop
-  abbrev pub SoFar : List ℕ → ℕ → ℕ → List C → ℕ → ℕ → Type 0
-  SoFar s from count list at i = Listing k.form k.limit k.blank k.rd s from count list at i
+    -- the same of the list as it is read here
+    told_here : placed length s (list_in (length lent) room (in_form form rd) (drop at s)) ≡ placed (λ xs. length (map form xs)) s (list_in limit room rd (drop at s))
+    told_here = rw (long, list_formed form rd limit room (drop at s)) (placed_formed (map form) length s (list_in limit room rd (drop at s)))
 
-  pub list_start :
-      {s : List ℕ} {from count : ℕ} {list : List C} → count ≤ k.limit → from ≤ length s → list ≡ pad k.limit k.blank [] → SoFar s from count list from 0
-  list_start {s} {from} {count} h l e = listing_start k.form k.limit k.blank k.rd s from count h l e
+    pub list_bad : {n : ℕ} → refused n ≡ placed length s (list_in (length lent) room (in_form form rd) (drop at s)) → list_in limit room rd (drop at s) ≡ refused n
+    list_bad p = told_stop (λ xs. length (map form xs)) list_takes s at (sym (p ∙ told_here))
 
-  module _ {s : List ℕ} {from count : ℕ} {list : List C} {at i : ℕ} (v : Listing k.form k.limit k.blank k.rd s from count list at i) where
-    pub list_done : count ≤ i → k.make list count (ended.Next at) ≡ many s (times count k.rd (drop from s))
-    list_done h =
-        let e : count ≡ length v.acc = omega (arith, v.many, v.to) in
-        (λ j. k.make (v.holds j) (e j) (ended.Next at)) ∙ listing_done v some no_list h
-
-    module _ (h : i < count) {a : E} (p : a ≡ one s (k.rd (drop at s))) where
-      pub list_stop : {n : ℕ} {empty : List C} → a ≡ k.halt n → empty ≡ pad k.limit k.blank [] → k.make empty 0 (ended.Refused n) ≡ many s (times count k.rd (drop from s))
-      list_stop {n} g q =
-          ap (λ (l : List C). k.make l 0 (ended.Refused n)) q
-          ∙ listing_stop v h some no_list (told_stop k.tells k.takes s at (sym p ∙ g))
-
-      pub list_more : {y : C} {next : ℕ} → a ≡ k.value y next → SoFar s from count (set list i y) next (i + 1)
-      list_more {y} {next} g =
-          listing_more v h
-          (told_value k.tells k.takes s at (k.back y) next (sym p ∙ g ∙ ap (λ (x : C). k.value x next) (sym (k.here y))))
-          (k.here y)
-
-  -- what the count's reader told, and what follows it
-  module _ (room : ℕ) (s : List ℕ) (from : ℕ) {a : NumberRead} (p : a ≡ number_read s (count_in k.limit room (drop from s))) where
-    pub no_count : {n : ℕ} {empty : List C} → a ≡ number.Refused n → empty ≡ pad k.limit k.blank [] → k.make empty 0 (ended.Refused n) ≡ many s (list_in room (drop from s))
-    no_count {n} g q =
-        ap (λ (l : List C). k.make l 0 (ended.Refused n)) q
-        ∙ rw (told_stop number_tells (count_takes k.limit room) s from (sym p ∙ g))
-
-    module _ {count next : ℕ} (g : a ≡ number.Value count next) where
-      told_count : Done s (count_in k.limit room (drop from s)) count next
-      told_count = told_value number_tells (count_takes k.limit room) s from count next (sym p ∙ g)
-
-      pub count_asked : (count ≤ k.limit) × (next ≤ length s)
-      count_asked =
-          let w : Gives (λ (x : Read ℕ). Counted k.limit room x.value) (done (record { value = count; rest = drop next s })) = rw told_count.is at (counts k.limit room (drop from s)) in
-          ((gives_at w).few, told_count.on)
-
-      pub so_many : {r : B} → r ≡ many s (times count k.rd (drop next s)) → r ≡ many s (list_in room (drop from s))
-      so_many q = q ∙ rw told_count.is
+    pub list_has : {many next : ℕ} {left : List B} → done (many, next) ≡ placed length s (list_in (length lent) room (in_form form rd) (drop at s))
+        → ((x : Read (List B)) → list_in (length lent) room (in_form form rd) (drop at s) ≡ done x → left ≡ over x.value lent) → Has form rd limit room blank s at left many next
+    list_has {many} {next} {left} p q =
+        let t = told_value (λ xs. length (map form xs)) list_takes s at (sym (p ∙ told_here)) in
+        let f : list_in (length lent) room (in_form form rd) (drop at s) ≡ done (record { value = map form t.value; rest = drop next s }) =
+        ap (λ n. list_in n room (in_form form rd) (drop at s)) long ∙ list_formed form rd limit room (drop at s) ∙ ap (formed (map form)) t.was.is in
+        record {
+          xs = t.value;
+          was = t.was;
+          many_is = sym (length-map t.value form) ∙ t.same;
+          holds = q (record { value = map form t.value; rest = drop next s }) f ∙ ap (over (map form t.value)) e ∙ over_pad limit blank (map form t.value);
+        }

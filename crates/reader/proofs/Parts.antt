@@ -5,7 +5,7 @@ use Prim.Native.Nat.{ℕ}
 use Rattle.rules.specs.Numbers.{Reads, after, give, number}
 use Rattle.rules.specs.Written.{times, counted, read_release, read_entry, read_record}
 use Rattle.number.proofs.After.{after_same, after_after}
-use Rattle.reader.specs.Records.{release_list, lists}
+use Rattle.reader.specs.Records.{list_in, lists}
 
 -- a count, its two refusals and its list before what follows
 counted_first :
@@ -18,4 +18,4 @@ counted_first limit room rd h s =
 pub record_parts : (j k : ℕ) (s : List ℕ) → read_record j k s ≡ after (number s) (lists j k)
 unfolding read_record
 record_parts j k s = after_same (number s) λ r t.
-    counted_first 64 j read_release _ t ∙ after_same (release_list j t) λ xs u. counted_first 15 k read_entry (λ es. give (record { r = r; releases = xs; entries = es })) u
+    counted_first 64 j read_release _ t ∙ after_same (list_in 64 j read_release t) λ xs u. counted_first 15 k read_entry (λ es. give (record { r = r; releases = xs; entries = es })) u

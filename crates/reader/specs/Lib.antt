@@ -1,2 +1,2 @@
--- What the code answers, in the words of the rules.
+pub mod Formed
 pub mod Records

@@ -1,324 +1,135 @@
 // A round record, read in one pass over lent bytes.
 #![tactic(auto)]
 
-ghost use Rattle.std.specs.Prelude.{◌≡◌, ◌≤◌, length, drop};
-ghost use Rattle.rules.specs.Written.{times, read_release, read_report, read_entry};
-ghost use Rattle.number.specs.Numbers.{number_read};
-ghost use Rattle.reader.specs.Records.{release_read, entry_read, releases_read, entries_read, round_read, count_in, release_list, entry_list, lists, no_round, no_record, within_read, record_read, record_from};
+ghost use Rattle.std.specs.Prelude.{◌≡◌, List, length, drop};
+ghost use Rattle.laws.specs.Lists.{over};
+ghost use Rattle.rules.specs.Answer.{done};
+ghost use Rattle.rules.specs.Numbers.{Read, Reads};
+ghost use Rattle.rules.specs.Written.{read_release, read_report, read_entry};
+ghost use Rattle.rules.proofs.Reading.{Takes, release_takes, entry_takes};
+ghost use Rattle.round.specs.Round.{release_as, entry_as};
+ghost use Rattle.refusal.specs.Refusal.{answer_of};
+ghost use Rattle.number.specs.Numbers.{placed, number_read};
+ghost use Rattle.reader.specs.Formed.{in_form, in_form_takes};
+ghost use Rattle.reader.specs.Records.{count_in, list_in, within_read, record_read, record_from};
 
-use number::NumberRead;
-use round::{Entry, Place, Release, Report, Round};
+use number::read_number;
+use refusal::Refusal;
+use round::{Entry, Release, Report, Round};
 
-// One release, or one entry, and the place past it; or the refusal.
-#[derive(Clone, Copy)]
-enum ReleaseRead {
-    Value(Release, usize),
-    Refused(u64),
+// What the lists of a record are made of: how one element is read, with the place past it.
+trait Element: Copy {
+    // As the rules read it, in the form that it has here.
+    ghost reads: { Reads Self };
+
+    fn read(bytes: &[u8], from: usize) -> Result<(Self, usize), Refusal>
+        ensures { answer_of result ≡ placed (λ x. x) bytes.now (reads (drop from bytes.now)) };
+
+    ghost takes: { Takes reads };
 }
 
-#[derive(Clone, Copy)]
-enum EntryRead {
-    Value(Place, usize),
-    Refused(u64),
+impl Element for Release {
+    ghost reads = { in_form release_as read_release };
+
+    ghost takes = { in_form_takes release_as release_takes };
+
+    // "(task, delay) each"
+    fn read(bytes: &[u8], from: usize) -> Result<(Release, usize), Refusal> {
+        let (task, middle) = read_number(bytes, from)?;
+        let (delay, next) = read_number(bytes, middle)?;
+        Ok((Release { task, delay }, next))
+    }
 }
 
-// The place past a list, or the refusal.
-#[derive(Clone, Copy)]
-enum Ended {
-    Next(usize),
-    Refused(u64),
-}
-
-// A list that was read: a refusal leaves it empty.
-#[derive(Clone, Copy)]
-struct Releases {
-    list: [Release; 64],
-    count: usize,
-    ended: Ended,
-}
-
-#[derive(Clone, Copy)]
-struct Entries {
-    list: [Place; 15],
-    count: usize,
-    ended: Ended,
-}
-
-// Both lists and the time before them: a refusal leaves the blank record.
-#[derive(Clone, Copy)]
-struct RoundRead {
-    round: Round,
-    ended: Ended,
-}
-
-#[derive(Clone, Copy)]
-pub enum RecordAnswer {
-    Read,
-    Refused(u64),
-}
-
-// What reading a record answers: "the reply gives the bytes used, 0 on a refusal". The round beside a refusal is the blank one.
-#[derive(Clone, Copy)]
-pub struct RecordRead {
-    pub answer: RecordAnswer,
-    pub used: usize,
-    pub round: Round,
-}
-
-// "(task, delay) each"
-fn read_release(bytes: &[u8], from: usize) -> ReleaseRead
-    ensures { result ≡ release_read bytes.now (read_release (drop from bytes.now)) }
+// Behind a presence mark of 1: "progress, completion time, run".
+fn read_report(bytes: &[u8], from: usize) -> Result<(Entry, usize), Refusal>
+    ensures { answer_of result ≡ placed entry_as bytes.now (read_report (drop from bytes.now)) }
 {
-    match number::read_number(bytes, from) {
-        NumberRead::Refused(n) => ReleaseRead::Refused(n),
-        NumberRead::Value(task, middle) => match number::read_number(bytes, middle) {
-            NumberRead::Refused(n) => ReleaseRead::Refused(n),
-            NumberRead::Value(delay, next) => ReleaseRead::Value(Release { task, delay }, next),
-        },
+    let (progress, second) = read_number(bytes, from)?;
+    let (completed, third) = read_number(bytes, second)?;
+    let (run, next) = read_number(bytes, third)?;
+    let report = Report {
+        progress,
+        completed,
+        run,
+    };
+    Ok((Some(report), next))
+}
+
+impl Element for Entry {
+    ghost reads = { in_form entry_as read_entry };
+
+    ghost takes = { in_form_takes entry_as entry_takes };
+
+    // "per entry 0, or 1 with progress, completion time, run"; 20: "presence mark above 1".
+    fn read(bytes: &[u8], from: usize) -> Result<(Entry, usize), Refusal> {
+        let (mark, next) = read_number(bytes, from)?;
+        match mark {
+            0 => Ok((None, next)),
+            1 => read_report(bytes, next),
+            _ => Err(Refusal::BadMark),
+        }
     }
 }
 
 // A count of a list: "over 64 or of entries over 15 gives 15 as soon as it is met"; where the lent list "is shorter than a count just read, that is 21
 // there, after that count's 15".
-fn read_count(bytes: &[u8], from: usize, limit: u64, room: usize) -> NumberRead
-    ensures { result ≡ number_read bytes.now (count_in limit room (drop from bytes.now)) }
+fn read_count(bytes: &[u8], from: usize, limit: usize, room: usize) -> Result<(u64, usize), Refusal>
+    ensures { answer_of result ≡ number_read bytes.now (count_in limit room (drop from bytes.now)) }
 {
-    match number::read_number(bytes, from) {
-        NumberRead::Refused(n) => NumberRead::Refused(n),
-        NumberRead::Value(count, next) => {
-            if limit < count {
-                return NumberRead::Refused(15);
-            }
-            if (room as u64) < count {
-                return NumberRead::Refused(21);
-            }
-            NumberRead::Value(count, next)
-        }
+    let (count, next) = read_number(bytes, from)?;
+    if (limit as u64) < count {
+        return Err(Refusal::IllFormed);
     }
+    if (room as u64) < count {
+        return Err(Refusal::NoRoom);
+    }
+    Ok((count, next))
 }
 
-// So many releases.
-fn list_releases(bytes: &[u8], from: usize, count: usize) -> Releases
-    requires { (count ≤ 64) × (from ≤ length bytes.now) }
-    ensures { result ≡ releases_read bytes.now (times count read_release (drop from bytes.now)) }
+// "A record is: r, count of releases, (task, delay) each, ..": a count and so many elements, into the first places of a list, of which so many may be used.
+fn read_list<T: Element>(
+    bytes: &[u8],
+    from: usize,
+    room: usize,
+    list: &mut [T],
+) -> Result<(usize, usize), Refusal>
+    ensures answer { answer_of result ≡ placed length bytes.now (list_in (length list.old) room T.reads (drop from bytes.now)) }
+    ensures list_after { (x : Read (List T)) → list_in (length list.old) room T.reads (drop from bytes.now) ≡ done x → list.new ≡ over x.value list.old }
 {
-    let mut list = round::no_releases();
-    let mut at = from;
-    let mut i = 0;
-    while i < count {
-        match read_release(bytes, at) {
-            ReleaseRead::Refused(n) => {
-                let none = round::no_releases();
-                return Releases {
-                    list: none,
-                    count: 0,
-                    ended: Ended::Refused(n),
-                };
-            }
-            ReleaseRead::Value(x, next) => {
-                list[i] = x;
-                at = next;
-            }
-        }
-        i += 1;
+    let (count, mut at) = read_count(bytes, from, list.len(), room)?;
+    let count = count as usize;
+    for i in 0..count {
+        let (x, next) = T::read(bytes, at)?;
+        list[i] = x;
+        at = next;
     }
-    Releases {
-        list,
-        count,
-        ended: Ended::Next(at),
-    }
+    Ok((count, at))
 }
 
-// "A record is: r, count of releases, (task, delay) each, ..": a count and so many releases, into so many places.
-fn read_releases(bytes: &[u8], from: usize, room: usize) -> Releases
-    ensures { result ≡ releases_read bytes.now (release_list room (drop from bytes.now)) }
+// Reads the record that stands at a place into lists of so many places, and gives the bytes used. A room above 64 releases or 15 entries is no more than
+// those: 15 comes first.
+pub fn read_within(
+    bytes: &[u8],
+    from: usize,
+    releases: usize,
+    entries: usize,
+) -> Result<(Round, usize), Refusal>
+    ensures { answer_of result ≡ within_read releases entries (drop from bytes.now) }
 {
-    match read_count(bytes, from, 64, room) {
-        NumberRead::Refused(n) => {
-            let none = round::no_releases();
-            Releases {
-                list: none,
-                count: 0,
-                ended: Ended::Refused(n),
-            }
-        }
-        NumberRead::Value(count, next) => list_releases(bytes, next, count as usize),
-    }
-}
-
-// Behind a presence mark of 1: "progress, completion time, run".
-fn read_report(bytes: &[u8], from: usize) -> EntryRead
-    ensures { result ≡ entry_read bytes.now (read_report (drop from bytes.now)) }
-{
-    match number::read_number(bytes, from) {
-        NumberRead::Refused(n) => EntryRead::Refused(n),
-        NumberRead::Value(progress, second) => match number::read_number(bytes, second) {
-            NumberRead::Refused(n) => EntryRead::Refused(n),
-            NumberRead::Value(completed, third) => match number::read_number(bytes, third) {
-                NumberRead::Refused(n) => EntryRead::Refused(n),
-                NumberRead::Value(run, next) => {
-                    let entry = Entry::Sent(Report {
-                        progress,
-                        completed,
-                        run,
-                    });
-                    EntryRead::Value(Place { entry }, next)
-                }
-            },
-        },
-    }
-}
-
-// "per entry 0, or 1 with progress, completion time, run"; 20: "presence mark above 1".
-fn read_entry(bytes: &[u8], from: usize) -> EntryRead
-    ensures { result ≡ entry_read bytes.now (read_entry (drop from bytes.now)) }
-{
-    match number::read_number(bytes, from) {
-        NumberRead::Refused(n) => EntryRead::Refused(n),
-        NumberRead::Value(mark, next) => {
-            if mark == 0 {
-                let entry = Entry::Missing;
-                return EntryRead::Value(Place { entry }, next);
-            }
-            if mark == 1 {
-                return read_report(bytes, next);
-            }
-            EntryRead::Refused(20)
-        }
-    }
-}
-
-// So many entries.
-fn list_entries(bytes: &[u8], from: usize, count: usize) -> Entries
-    requires { (count ≤ 15) × (from ≤ length bytes.now) }
-    ensures { result ≡ entries_read bytes.now (times count read_entry (drop from bytes.now)) }
-{
-    let mut list = round::no_entries();
-    let mut at = from;
-    let mut i = 0;
-    while i < count {
-        match read_entry(bytes, at) {
-            EntryRead::Refused(n) => {
-                let none = round::no_entries();
-                return Entries {
-                    list: none,
-                    count: 0,
-                    ended: Ended::Refused(n),
-                };
-            }
-            EntryRead::Value(x, next) => {
-                list[i] = x;
-                at = next;
-            }
-        }
-        i += 1;
-    }
-    Entries {
-        list,
-        count,
-        ended: Ended::Next(at),
-    }
-}
-
-// ".. count of entries, then per entry ..": a count and so many entries, into so many places.
-fn read_entries(bytes: &[u8], from: usize, room: usize) -> Entries
-    ensures { result ≡ entries_read bytes.now (entry_list room (drop from bytes.now)) }
-{
-    match read_count(bytes, from, 15, room) {
-        NumberRead::Refused(n) => {
-            let none = round::no_entries();
-            Entries {
-                list: none,
-                count: 0,
-                ended: Ended::Refused(n),
-            }
-        }
-        NumberRead::Value(count, next) => list_entries(bytes, next, count as usize),
-    }
-}
-
-// Beside a refusal stands the blank record, so that the reply is settled to the last bit.
-fn no_lists(n: u64) -> RoundRead
-    ensures { result ≡ no_round n }
-{
-    let round = Round::blank();
-    RoundRead {
-        round,
-        ended: Ended::Refused(n),
-    }
-}
-
-// What follows r: "count of releases, (task, delay) each, count of entries, then per entry ..".
-fn read_lists(bytes: &[u8], time: u64, from: usize, releases: usize, entries: usize) -> RoundRead
-    ensures { result ≡ round_read bytes.now (lists releases entries time (drop from bytes.now)) }
-{
-    let first = read_releases(bytes, from, releases);
-    let middle = first.ended;
-    match middle {
-        Ended::Refused(n) => no_lists(n),
-        Ended::Next(at) => {
-            let second = read_entries(bytes, at, entries);
-            let end = second.ended;
-            match end {
-                Ended::Refused(n) => no_lists(n),
-                Ended::Next(next) => {
-                    let xs = first.list;
-                    let es = second.list;
-                    RoundRead {
-                        round: Round {
-                            time,
-                            listed: first.count,
-                            releases: xs,
-                            entered: second.count,
-                            entries: es,
-                        },
-                        ended: Ended::Next(next),
-                    }
-                }
-            }
-        }
-    }
-}
-
-fn no_record(n: u64) -> RecordRead
-    ensures { result ≡ no_record n }
-{
-    let round = Round::blank();
-    RecordRead {
-        answer: RecordAnswer::Refused(n),
-        used: 0,
-        round,
-    }
-}
-
-// Reads the record that stands at a place into lists of so many places. A room above 64 releases or 15 entries is no more than those: 15 comes first.
-pub fn read_within(bytes: &[u8], from: usize, releases: usize, entries: usize) -> RecordRead
-    ensures { result ≡ within_read releases entries (drop from bytes.now) }
-{
-    match number::read_number(bytes, from) {
-        NumberRead::Refused(n) => no_record(n),
-        NumberRead::Value(time, at) => {
-            let read = read_lists(bytes, time, at, releases, entries);
-            let round = read.round;
-            let ended = read.ended;
-            match ended {
-                Ended::Refused(n) => no_record(n),
-                Ended::Next(next) => {
-                    let used = next - from;
-                    RecordRead {
-                        answer: RecordAnswer::Read,
-                        used,
-                        round,
-                    }
-                }
-            }
-        }
-    }
+    let (time, at) = read_number(bytes, from)?;
+    let mut q = Round::blank();
+    let (listed, middle) = read_list(bytes, at, releases, &mut q.releases)?;
+    let (entered, next) = read_list(bytes, middle, entries, &mut q.entries)?;
+    q.time = time;
+    q.listed = listed;
+    q.entered = entered;
+    Ok((q, next - from))
 }
 
 // Reads the record that stands at a place, with room for every record.
-pub fn read_record(bytes: &[u8], from: usize) -> RecordRead
-    ensures { result ≡ record_read (record_from (drop from bytes.now)) }
+pub fn read_record(bytes: &[u8], from: usize) -> Result<(Round, usize), Refusal>
+    ensures { answer_of result ≡ record_read (record_from (drop from bytes.now)) }
 {
     read_within(bytes, from, 64, 15)
 }

@@ -17,8 +17,8 @@ use Rattle.passes.specs.declared.Classed.{Classed}
 use Rattle.passes.specs.Classed.{no_class}
 use Rattle.judge.specs.declared.Prepared.{Prepared}
 use Rattle.judge.specs.Judgement.{classed_as, conclusion, judgement}
-use Rattle.judge.specs.Lent.{prepared, Judgeable}
-use Rattle.judge.proofs.Lent.{classed_same, judgeable}
+use Rattle.judge.specs.Lent.{prepared}
+use Rattle.judge.proofs.Lent.{classed_same}
 use Rattle.judge.proofs.Folded.{map_map, concluded}
 use Rattle.reports.specs.declared.Told.{Told}
 use Rattle.reports.specs.declared.Basis.{Basis}
@@ -75,10 +75,6 @@ module _ (b : Basis) where
   few l = ⊎_elim (λ h. rw (take_all 15 l (omega arith)) (omega arith)) (λ h. omega (arith, length-take-le 15 l h)) (lt_or_ge (length l) 15)
 
   module _ (v : Ready b) where
-    -- what the judging of one report asks
-    pub may_judge : (l : List Told) → Judgeable (so_far l).prepared.before
-    may_judge l = judgeable v.checked v.given b.time refl v.time
-
     judged_is : (l : List Told) → map (judged walked) l ≡ map (λ e. classed_as (table_of b.table) (common_of b.common) b.time (told_of e)) l
     judged_is l = ap (λ (f : Told → Classed). map f l) (λ i e. classed_same v.checked v.given b.time refl (told_of e) i)
 

@@ -7,7 +7,6 @@ ghost use Rattle.table.specs.Table.{table_of};
 ghost use Rattle.common.specs.Common.{common_of};
 ghost use Rattle.round.specs.Round.{entry_as};
 ghost use Rattle.judge.specs.Judgement.{conclusion, judgement};
-ghost use Rattle.judge.specs.Lent.{Judgeable};
 ghost use Rattle.reports.specs.Reports.{told_of, round_of_told, begun, with_next, Ready};
 
 use common::Common;
@@ -16,8 +15,8 @@ use passes::Classed;
 use round::{Entry, Report};
 use table::Table;
 
-// A report in the caller's list. Where it is not present its numbers mean nothing.
-#[derive(Clone, Copy)]
+// A report in the caller's list: document 01 names this form, a lent slice of report structs. Where it is not present its numbers mean nothing.
+#[derive(Clone, Copy, Debug, PartialEq, Eq)]
 pub struct Told {
     pub present: bool,
     pub progress: u64,
@@ -25,7 +24,8 @@ pub struct Told {
     pub run: u64,
 }
 
-// What a round is judged by: the table, the common record before the round, and r.
+// What a round is judged by: the table, the common record before the round, and r. A caller from outside makes one, so what he must bring (`Ready`) stands at the
+// functions.
 #[derive(Clone, Copy)]
 pub struct Basis {
     pub table: Table,
@@ -34,7 +34,7 @@ pub struct Basis {
 }
 
 // The first `count` reports of a round, judged by what was prepared: each in its node's place with its class and what the passes read of it.
-#[derive(Clone, Copy)]
+#[derive(Clone, Copy, Debug, PartialEq, Eq)]
 pub struct Judging {
     pub prepared: Prepared,
     pub count: usize,
@@ -46,45 +46,37 @@ fn begin(basis: Basis) -> Judging
     requires { Ready basis }
     ensures { result ≡ begun basis }
 {
-    let table = basis.table;
-    let common = basis.common;
-    let prepared = judge::prepare(table, common, basis.time);
-    let all = passes::none_classed();
     Judging {
-        prepared,
+        prepared: judge::prepare(basis.table, basis.common, basis.time),
         count: 0,
-        all,
+        all: passes::none_classed(),
     }
 }
 
 // "each missing or (progress, completion time, run)"
-fn entry_of(e: Told) -> Entry
-    ensures { result ≡ entry_as (told_of e) }
-{
-    if !e.present {
-        return Entry::Missing;
+impl From<Told> for Entry {
+    ghost from_gives = { λ e entry. entry ≡ entry_as (told_of e) };
+
+    fn from(e: Told) -> Entry {
+        e.present.then_some(Report {
+            progress: e.progress,
+            completed: e.completed,
+            run: e.run,
+        })
     }
-    Entry::Sent(Report {
-        progress: e.progress,
-        completed: e.completed,
-        run: e.run,
-    })
 }
 
 // "Each entry gets the first class that fits": the next report, in the next place. There are fifteen; of a longer list the rest is not judged.
+#[tactic(auto, using(round::proofs::Same::entry_there), unfolding(crate::specs::Reports::with_next))]
 pub fn judge_next(judging: Judging, e: Told) -> Judging
-    requires { Judgeable judging.prepared.before }
     ensures { result ≡ with_next judging e }
 {
     let k = judging.count;
     if 15 <= k {
         return judging;
     }
-    let prepared = judging.prepared;
-    let entry = entry_of(e);
-    let x = judge::classed_entry(prepared, entry);
     let mut next = judging;
-    next.all[k] = x;
+    next.all[k] = judge::classed_entry(judging.prepared, Entry::from(e));
     next.count = k + 1;
     next
 }
@@ -94,10 +86,7 @@ fn conclude(basis: Basis, judging: Judging) -> Judgement
     requires { Ready basis × (judging.count ≤ 15) }
     ensures { result ≡ conclusion (table_of basis.table) (common_of basis.common) (take judging.count judging.all) }
 {
-    let table = basis.table;
-    let common = basis.common;
-    let all = judging.all;
-    judge::conclude(table, common, all, judging.count)
+    judge::conclude(basis.table, basis.common, judging.all, judging.count)
 }
 
 // How a round is judged, with its reports lent.
@@ -106,10 +95,8 @@ pub fn judge_reports(basis: Basis, reports: &[Told]) -> Judgement
     ensures { result ≡ judgement (table_of basis.table) (common_of basis.common) (round_of_told basis.time reports.now) }
 {
     let mut judging = begin(basis);
-    let mut i: usize = 0;
-    while i < reports.len() {
-        judging = judge_next(judging, reports[i]);
-        i = i + 1;
+    for e in reports {
+        judging = judge_next(judging, *e);
     }
     conclude(basis, judging)
 }

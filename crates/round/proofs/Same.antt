@@ -9,18 +9,18 @@ use Rattle.laws.specs.Lists.{rows, pad}
 use Rattle.laws.proofs.Lists.{take_pad, length_pad}
 use Rattle.laws.proofs.Sequences.{rows_take}
 use Rattle.rules.specs.Judge as rules
-use Rattle.round.specs.declared.Entry.{Entry}
-use Rattle.round.specs.declared.Entry.TheVariants as entry
-use Rattle.round.specs.declared.Place.{Place}
+use Rattle.std.specs.Prelude as code
+use Rattle.std.specs.Prelude.{Some, None}
+use Rattle.round.specs.declared.Report.{Report}
 use Rattle.round.specs.Round.{release_of, entry_of, no_release, no_entry, round_of, release_as, entry_as, round_as}
 
 pub entry_there : (e : Option rules.Report) → entry_of (entry_as e) ≡ e
 entry_there none = refl
 entry_there (some e) = refl
 
-pub entry_here : (e : Entry) → entry_as (entry_of e) ≡ e
-entry_here entry.Missing = refl
-entry_here (entry.Sent e) = refl
+pub entry_here : (e : code.Option Report) → entry_as (entry_of e) ≡ e
+entry_here None = refl
+entry_here (Some e) = refl
 
 -- a list in the places of an array, read off them again
 module _ {A B : Type 0} (form : A → B) (back : B → A) (blank : B) (same : (x : A) → back (form x) ≡ x) where
@@ -39,5 +39,5 @@ module _ {A B : Type 0} (form : A → B) (back : B → A) (blank : B) (same : (x
 pub round_there : (q : rules.Round) → length q.releases ≤ 64 → length q.entries ≤ 15 → round_of (round_as q) ≡ q
 round_there q h k =
     let xs = read_off release_as release_of no_release (λ x. refl) 64 q.releases h in
-    let es = read_off (λ (e : Option rules.Report). record { entry = entry_as e }) (λ (p : Place). entry_of p.entry) no_entry entry_there 15 q.entries k in
+    let es = read_off entry_as entry_of no_entry entry_there 15 q.entries k in
     λ i. record { r = q.r; releases = xs i; entries = es i }

@@ -6,14 +6,14 @@ ghost use Rattle.laws.specs.Lists.{pad};
 ghost use Rattle.round.specs.Round.{no_release, no_entry, blank};
 
 // "releases (task, delay after r)"
-#[derive(Clone, Copy)]
+#[derive(Clone, Copy, Debug, PartialEq, Eq)]
 pub struct Release {
     pub task: u64,
     pub delay: u64,
 }
 
 // "(progress, completion time, run)"
-#[derive(Clone, Copy)]
+#[derive(Clone, Copy, Debug, PartialEq, Eq)]
 pub struct Report {
     pub progress: u64,
     pub completed: u64,
@@ -21,17 +21,7 @@ pub struct Report {
 }
 
 // "each missing or (progress, completion time, run)": a missing entry carries no numbers.
-#[derive(Clone, Copy)]
-pub enum Entry {
-    Missing,
-    Sent(Report),
-}
-
-// One place of a list of entries.
-#[derive(Clone, Copy)]
-pub struct Place {
-    pub entry: Entry,
-}
+pub type Entry = Option<Report>;
 
 // "A record has r, 0 to 64 releases and m entries": so many are listed, so many entered. A count may say more than there are places: such a record
 // is refused 15, like any other of that count.
@@ -41,39 +31,35 @@ pub struct Round {
     pub listed: usize,
     pub releases: [Release; 64],
     pub entered: usize,
-    pub entries: [Place; 15],
+    pub entries: [Entry; 15],
 }
 
 impl Round {
-    // The record that says nothing: what stands beside a refusal.
+    // The record that says nothing: a reading begins with it.
     pub fn blank() -> Round
         ensures { result ≡ blank }
     {
-        let releases = no_releases();
-        let entries = no_entries();
         Round {
             time: 0,
             listed: 0,
-            releases,
+            releases: no_releases(),
             entered: 0,
-            entries,
+            entries: no_entries(),
         }
     }
 }
 
 // 64 places with no release, and 15 with no entry: functions of their own, so that no other proof meets the places written out.
+#[tactic(auto, unfolding(laws::specs::Lists::pad))]
 pub fn no_releases() -> [Release; 64]
     ensures { result ≡ pad 64 no_release [] }
 {
-    let none = Release { task: 0, delay: 0 };
-    [none; 64]
+    [Release { task: 0, delay: 0 }; 64]
 }
 
-pub fn no_entries() -> [Place; 15]
+#[tactic(auto, unfolding(laws::specs::Lists::pad))]
+pub fn no_entries() -> [Entry; 15]
     ensures { result ≡ pad 15 no_entry [] }
 {
-    let none = Place {
-        entry: Entry::Missing,
-    };
-    [none; 15]
+    [None; 15]
 }

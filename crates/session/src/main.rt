@@ -7,322 +7,241 @@
 // `refused N`. An input that cannot be read, or an output that cannot be written, is told on standard error, and no order line follows it.
 #![tactic(auto)]
 
-ghost use Rattle.std.specs.Prelude.{◌-◌, ◌≤◌, length};
+ghost use Rattle.std.specs.Prelude.{◌-◌, ◌≤◌, IfSome};
 ghost use Rattle.table.specs.Table.{Checked};
+ghost use Rattle.common.specs.Common.{Given};
 ghost use Rattle.turn.specs.Gather.{Countable, Printable};
-ghost use Rattle.session.specs.Session.{Held, Few, Ready};
+ghost use Rattle.session.specs.Session.{Few};
 
 use common::Common;
-use intake::{TableAnswer, read_table};
+use intake::read_table;
+use refusal::Refusal;
 use std::io::{Input, Read};
 use table::Table;
 use turn::gather::{gather_order, gather_refused, gather_round};
 use turn::window::shift;
-use turn::{Turn, TurnAnswer, next_turn};
+use turn::{Turn, next_turn};
 
-// The bytes `from` to `to` of the window are read and not yet used; `ended` says that no more will come.
+// The bytes `from` to `to` of the input's window are read and not yet used; `ended` says that no more will come.
 #[derive(Clone, Copy)]
 struct Window {
     from: usize,
     to: usize,
     ended: bool,
-    going: bool,
+    ghost held: { (from ≤ to) × (to ≤ 65536) },
 }
 
-// The common record, the window, and how many bytes of lines are gathered.
+// Where a session stands between two turns.
 #[derive(Clone, Copy)]
 struct State {
     common: Common,
     window: Window,
+}
+
+// The lines that are gathered, of which `kept` bytes are not yet written, and the room in which each line is built.
+#[derive(Drop)]
+struct Lines {
+    output: [u8; 65536],
+    line: [u8; 8192],
     kept: usize,
+    ghost room: { kept ≤ 49152 },
 }
 
-// How many bytes of lines are gathered now, and whether those before them could be written.
-#[derive(Clone, Copy)]
-struct Said {
-    kept: usize,
-    written: bool,
+impl Lines {
+    fn new() -> Self {
+        Lines {
+            output: [0; 65536],
+            line: [0; 8192],
+            kept: 0,
+        }
+    }
+
+    // The gathered lines, written. None where they cannot be: it is told on standard error, and the session ends.
+    fn flush<R: Print + Eprint>(&mut self, rt: &R, end: usize) -> Option<()>
+        requires { end ≤ 65536 }
+    {
+        self.kept = 0;
+        match rt.write_all(&self.output[..end]) {
+            Ok(()) => Some(()),
+            Err(error) => {
+                let _ = eprintln!(rt; "session: output: {error}");
+                None
+            }
+        }
+    }
+
+    // "followed by the order line"
+    fn say_order<R: Print + Eprint>(&mut self, rt: &R, at: usize, c: Common)
+        requires { (at ≤ 57344) × Countable c }
+    {
+        let end = gather_order(&mut self.output, &mut self.line, at, c);
+        let _ = self.flush(rt, end);
+    }
+
+    // The line of a round. The buffer is written when it is nearly full.
+    fn say_round<R: Print + Eprint>(&mut self, rt: &R, x: Turn, nodes: u64) -> Option<()>
+        requires { Printable nodes x }
+    {
+        let end = gather_round(&mut self.output, &mut self.line, self.kept, x, nodes);
+        if end <= 49152 {
+            self.kept = end;
+            return Some(());
+        }
+        self.flush(rt, end)
+    }
 }
 
-// The window of the input, and the lines that are gathered.
-fn large_buffer() -> [u8; 65536] {
-    [0; 65536]
-}
-
-fn line_room() -> [u8; 8192] {
-    [0; 8192]
-}
-
-// One read behind the bytes not yet used. These are so few that the read asks for some: an answer of 0 is the end of the input.
-fn read_more<R: Input + Eprint>(rt: &R, input: &mut [u8], from: usize, to: usize) -> Window
-    requires { Held from to (length input.old) × (to - from ≤ 4096) }
-    ensures { Held result.from result.to (length input.old) }
+// One read behind the bytes not yet used. These are so few that the read asks for some: an answer of 0 is the end of the input. None where the input
+// cannot be read: it is told on standard error, and the session ends.
+fn read_more<R: Input + Eprint>(
+    rt: &R,
+    input: &mut [u8; 65536],
+    from: usize,
+    to: usize,
+) -> Option<Window>
+    requires { (from ≤ to) × (to ≤ 65536) × (to - from ≤ 4096) }
 {
     shift(input, from, to);
     let rest = to - from;
-    let got = rt.reader().read(&mut input[rest..]);
-    match got {
-        Ok(n) => Window {
+    match rt.reader().read(&mut input[rest..]) {
+        Ok(n) => Some(Window {
             from: 0,
             to: rest + n,
             ended: n == 0,
-            going: true,
-        },
+        }),
         Err(error) => {
             let _ = eprintln!(rt; "session: input: {error}");
-            Window {
-                from: 0,
-                to: rest,
-                ended: true,
-                going: false,
-            }
+            None
         }
     }
-}
-
-// The gathered lines, written.
-fn flush<R: Print + Eprint>(rt: &R, output: &[u8], kept: usize) -> bool
-    requires { kept ≤ length output.now }
-{
-    match rt.write_all(&output[..kept]) {
-        Ok(()) => true,
-        Err(error) => {
-            let _ = eprintln!(rt; "session: output: {error}");
-            false
-        }
-    }
-}
-
-fn stopped() -> Window
-    ensures { Held result.from result.to 0 }
-{
-    Window {
-        from: 0,
-        to: 0,
-        ended: true,
-        going: false,
-    }
-}
-
-// The lines so far, and then more input.
-fn wait<R: Input + Print + Eprint>(
-    rt: &R,
-    input: &mut [u8],
-    output: &mut [u8; 65536],
-    w: Window,
-    kept: usize,
-) -> Window
-    requires { Held w.from w.to (length input.old) × (w.to - w.from ≤ 4096) × (kept ≤ 49152) }
-    ensures { Held result.from result.to (length input.old) }
-{
-    let is_written = flush(rt, output, kept);
-    if !is_written {
-        return stopped();
-    }
-    read_more(rt, input, w.from, w.to)
-}
-
-// "followed by the order line"
-fn say_order<R: Print + Eprint>(
-    rt: &R,
-    output: &mut [u8; 65536],
-    line: &mut [u8; 8192],
-    at: usize,
-    c: Common,
-)
-    requires { (at ≤ 57344) × Countable c }
-{
-    let end = gather_order(output, line, at, c);
-    flush(rt, output, end);
 }
 
 // "A refusal prints `refused N` in place of the round line and stops, followed by the order line." "Input that ends between two records ends the session,
-// with the order line." An 18 before the end of the input is no refusal yet.
+// with the order line." Bytes that end before the input does are no refusal yet: the lines so far are written, and more is read. None at the session's end.
 fn refused<R: Input + Print + Eprint>(
     rt: &R,
-    input: &mut [u8],
-    output: &mut [u8; 65536],
-    line: &mut [u8; 8192],
-    c: Common,
-    w: Window,
-    kept: usize,
-    number: u64,
-) -> Window
-    requires { Held w.from w.to (length input.old) × Few number (w.to - w.from) × (kept ≤ 49152) × Countable c }
-    ensures { Held result.from result.to (length input.old) }
-{
-    let ended = w.ended;
-    if number == 18 {
-        if !ended {
-            return wait(rt, input, output, w, kept);
-        }
-        if w.from == w.to {
-            say_order(rt, output, line, kept, c);
-            return stopped();
-        }
-    }
-    let at = gather_refused(output, line, kept, number);
-    say_order(rt, output, line, at, c);
-    stopped()
-}
-
-// The line of a round. The buffer is written when it is nearly full.
-fn say_round<R: Print + Eprint>(
-    rt: &R,
-    output: &mut [u8; 65536],
-    line: &mut [u8; 8192],
-    x: Turn,
-    nodes: u64,
-    kept: usize,
-) -> Said
-    requires { (kept ≤ 49152) × Printable nodes x }
-    ensures { result.kept ≤ 49152 }
-{
-    let end = gather_round(output, line, kept, x, nodes);
-    if end <= 49152 {
-        return Said {
-            kept: end,
-            written: true,
-        };
-    }
-    let is_written = flush(rt, output, end);
-    Said {
-        kept: 0,
-        written: is_written,
-    }
-}
-
-// One turn: the next record, or more input, or the end.
-fn advance<R: Input + Print + Eprint>(
-    rt: &R,
-    input: &mut [u8],
-    output: &mut [u8; 65536],
-    line: &mut [u8; 8192],
-    t: Table,
+    input: &mut [u8; 65536],
+    lines: &mut Lines,
     s: State,
-) -> State
-    requires { Checked t × Ready t s (length input.old) }
-    ensures { Ready t result (length input.old) }
+    error: Refusal,
+) -> Option<Window>
+    requires { Few error (s.window.to - s.window.from) × Countable s.common }
 {
     let w = s.window;
-    let common = s.common;
-    let from = w.from;
-    let to = w.to;
-    let next = next_turn(t, common, &input[..to], from);
-    let answer = next.answer;
-    match answer {
-        TurnAnswer::Refused(number) => {
-            let window = refused(rt, input, output, line, common, w, s.kept, number);
-            State {
-                common,
-                window,
-                kept: 0,
-            }
+    if error == Refusal::BytesEnd && !w.ended {
+        lines.flush(rt, lines.kept)?;
+        return read_more(rt, input, w.from, w.to);
+    }
+    let at = if error == Refusal::BytesEnd && w.from == w.to {
+        lines.kept
+    } else {
+        gather_refused(
+            &mut lines.output,
+            &mut lines.line,
+            lines.kept,
+            error.number(),
+        )
+    };
+    lines.say_order(rt, at, s.common);
+    None
+}
+
+// One turn: the next record, or more input. None at the session's end.
+fn advance<R: Input + Print + Eprint>(
+    rt: &R,
+    input: &mut [u8; 65536],
+    lines: &mut Lines,
+    t: Table,
+    s: State,
+) -> Option<State>
+    requires { Checked t × Given t s.common }
+    ensures { IfSome result (λ next. Given t next.common) }
+{
+    let w = s.window;
+    match next_turn(t, s.common, &input[..w.to], w.from) {
+        Err(error) => {
+            let window = refused(rt, input, lines, s, error)?;
+            Some(State { window, ..s })
         }
-        TurnAnswer::Closed => {
-            let said = say_round(rt, output, line, next, t.nodes, s.kept);
-            let after = next.common;
+        Ok(next) => {
+            lines.say_round(rt, next, t.nodes)?;
             let window = Window {
-                from: from + next.used,
-                to,
+                from: w.from + next.used,
+                to: w.to,
                 ended: w.ended,
-                going: said.written,
             };
-            State {
-                common: after,
+            Some(State {
+                common: next.common,
                 window,
-                kept: said.kept,
-            }
+            })
         }
     }
 }
 
-// "then records back to back". Nothing says that an input ends, so the turns are counted down, from a number that no run uses up.
+// "then records back to back". Nothing says that an input ends, so the turns are counted, up to a number that no run reaches.
 fn rounds<R: Input + Print + Eprint>(
     rt: &R,
-    input: &mut [u8],
-    output: &mut [u8; 65536],
-    line: &mut [u8; 8192],
+    input: &mut [u8; 65536],
+    lines: &mut Lines,
     t: Table,
     w: Window,
 )
-    requires { Checked t × Held w.from w.to (length input.old) }
+    requires { Checked t }
 {
-    let common = Common::fresh();
     let mut s = State {
-        common,
+        common: Common::fresh(),
         window: w,
-        kept: 0,
     };
-    let mut going = true;
-    let mut turns = u64::MAX;
-    while turns > 0 && going {
-        s = advance(rt, input, output, line, t, s);
-        let window = s.window;
-        going = window.going;
-        turns -= 1;
+    for _ in 0..u64::MAX {
+        match advance(rt, input, lines, t, s) {
+            Some(next) => s = next,
+            None => break,
+        }
     }
 }
 
-// The table, once its bytes have come, and the rounds. "A refused table, or a byte fault in it, prints only `refused N`".
+// The table, once its bytes have come, and the rounds. "A refused table, or a byte fault in it, prints only `refused N`". None at the session's end.
 fn begin<R: Input + Print + Eprint>(
     rt: &R,
-    input: &mut [u8],
-    output: &mut [u8; 65536],
-    line: &mut [u8; 8192],
-    to: usize,
-    ended: bool,
-) -> Window
-    requires { to ≤ length input.old }
-    ensures { Held result.from result.to (length input.old) }
-{
-    let read = read_table(&input[..to]);
-    let answer = read.answer;
-    match answer {
-        TableAnswer::Read => {
-            let table = read.table;
-            let w = Window {
-                from: read.used,
-                to,
-                ended,
-                going: true,
+    input: &mut [u8; 65536],
+    lines: &mut Lines,
+    w: Window,
+) -> Option<Window> {
+    match read_table(&input[..w.to]) {
+        Ok((table, used)) => {
+            let behind = Window {
+                from: used,
+                to: w.to,
+                ended: w.ended,
             };
-            rounds(rt, input, output, line, table, w);
-            stopped()
+            rounds(rt, input, lines, table, behind);
+            None
         }
-        TableAnswer::Refused(number) => {
-            if number == 18 && !ended {
-                return read_more(rt, input, 0, to);
-            }
-            let end = gather_refused(output, line, 0, number);
-            flush(rt, output, end);
-            stopped()
+        Err(Refusal::BytesEnd) if !w.ended => read_more(rt, input, 0, w.to),
+        Err(error) => {
+            let end = gather_refused(&mut lines.output, &mut lines.line, 0, error.number());
+            let _ = lines.flush(rt, end);
+            None
         }
     }
 }
 
-fn run<R: Input + Print + Eprint>(
-    rt: &R,
-    input: &mut [u8],
-    output: &mut [u8; 65536],
-    line: &mut [u8; 8192],
-) {
-    let mut to = 0;
-    let mut ended = false;
-    let mut going = true;
-    let mut turns = u64::MAX;
-    while turns > 0 && going {
-        let w = begin(rt, input, output, line, to, ended);
-        to = w.to;
-        ended = w.ended;
-        going = w.going;
-        turns -= 1;
+fn run<R: Input + Print + Eprint>(rt: &R, input: &mut [u8; 65536], lines: &mut Lines) {
+    let mut w = Window {
+        from: 0,
+        to: 0,
+        ended: false,
+    };
+    for _ in 0..u64::MAX {
+        match begin(rt, input, lines, w) {
+            Some(more) => w = more,
+            None => break,
+        }
     }
 }
 
 fn main(rt: HostRuntime) {
-    let mut window = large_buffer();
-    let mut output = large_buffer();
-    let mut line = line_room();
-    run(&rt, &mut window, &mut output, &mut line);
+    let mut input = [0; 65536];
+    let mut lines = Lines::new();
+    run(&rt, &mut input, &mut lines);
 }

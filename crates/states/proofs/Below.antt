@@ -1,30 +1,33 @@
 -- Laws of lists whose elements all lie below a limit.
---     below_none, below_more, below-stop     from the first element on, as a loop goes
---     each_below, are-below                  element by element
---     zeros, zeros-below                     below 1 there is only 0
-use mathlib.Core.Path.{◌≡◌, refl, ◌∙◌}
-use mathlib.Core.Bool.{true, false}
+--     each_below, are_below        element by element
+--     zeros, zeros_below           below 1 there is only 0
+--     below_list_all               as the library's `all` tests it
+--     sum_total, small_sum         their sum, as the library makes it
+use mathlib.Core.Path.{◌≡◌, refl, sym, ap, ◌∙◌}
+use mathlib.Core.Bool.{Bool, true, ◌&&◌}
 use mathlib.Core.List.{List, [], ◌∷◌}
-use Prim.Native.Nat.{ℕ, zero, suc, ◌≤◌, ◌<◌}
+use Prim.Native.Nat.{ℕ, zero, suc, ◌^◌, ◌≤◌, ◌<◌}
 use native.Mathlib.Omega.{arith}
-use borrow.Author.Tests.{ltb-true, lt-ltb, le-ltb}
+use borrow.Author.Tests.{ltb-true, lt-ltb}
 use lib.ListN.{length, get_or, replicate, length-replicate, get_or-replicate}
+use lib.Dec.{ltb}
+use Rattle.std.specs.List.{sum, list_all, All}
+use Rattle.std.proofs.lemmas.List.{get_or_default}
+use Rattle.std.proofs.lemmas.List.Recursion.{is_sum_by}
+use Rattle.std.proofs.lemmas.List.Sums.{sum_by-le}
+use Rattle.laws.specs.Sums.{total}
 use Rattle.laws.specs.Tests.{◌<?◌, all_of}
 use Rattle.laws.proofs.Tests.{and_yes}
 use Rattle.states.specs.Common.{all_below}
 
 module _ (limit : ℕ) where
-  pub below_none : all_below limit [] ≡ true
+  below_none : all_below limit [] ≡ true
   unfolding all_below all_of
   below_none = refl
 
-  pub below_more : (x : ℕ) (l : List ℕ) → x < limit → all_below limit (x ∷ l) ≡ all_below limit l
+  below_more : (x : ℕ) (l : List ℕ) → x < limit → all_below limit (x ∷ l) ≡ all_below limit l
   unfolding all_below all_of
   below_more x l h = rw (lt-ltb x limit h)
-
-  pub below_stop : (x : ℕ) (l : List ℕ) → limit ≤ x → all_below limit (x ∷ l) ≡ false
-  unfolding all_below all_of
-  below_stop x l h = rw (le-ltb x limit h)
 
   both : (x : ℕ) (l : List ℕ) → all_below limit (x ∷ l) ≡ true → (x < limit) × (all_below limit l ≡ true)
   unfolding all_below all_of
@@ -49,3 +52,19 @@ zeros (x ∷ l) h =
 pub zeros_below : (n : ℕ) → all_below 1 (replicate n 0) ≡ true
 zeros_below n =
     are_below 1 (replicate n 0) (λ i k. omega (arith, get_or-replicate {A = ℕ} n i 0 0 (omega (arith, length-replicate {A = ℕ} n 0))))
+
+-- as the library's words say it
+pub below_list_all : (limit : ℕ) (l : List ℕ) → list_all (λ x. ltb x limit) l ≡ all_below limit l
+unfolding all_below all_of
+below_list_all limit [] = refl
+below_list_all limit (x ∷ l) = ap (λ (b : Bool). (x <? limit) && b) (below_list_all limit l)
+
+pub sum_total : (l : List ℕ) → sum l ≡ total l
+unfolding total
+sum_total l = sym (is_sum_by total (λ x. x) refl (λ x xs. refl) l)
+
+-- 64 numbers below 2^49 have a sum of 64 bits
+pub small_sum : (l : List ℕ) → length l ≡ 64 → all_below (2 ^ 49) l ≡ true → sum l < 2 ^ 64
+small_sum l n h =
+    let each : All (λ x. x ≤ 2 ^ 49) l = λ k d m. omega (arith, get_or_default l k d 0 m, each_below (2 ^ 49) l h k m) in
+    omega (arith, n, sum_by-le (λ x. x) (2 ^ 49) l each)

@@ -1,7 +1,6 @@
 -- The words of a common record are a written form of it: what is taken is `Given`, its words are those that came in, and no record that was given back is
--- refused.
---     taken-given, taken-words, given-taken     the three
---     zero-given                                the first, of what `common_in` answers
+-- refused: `taken_given`, `taken_words`, `given_taken`.
+use Rattle.std.specs.Prelude.{Option, Some, None, unwrap_or, if◌then◌else◌}
 use mathlib.Core.Path.{◌≡◌, refl, sym, ap, subst, ◌∙◌}
 use mathlib.Core.Bool.{Bool, true, false, not}
 use mathlib.Core.List.{List, [], ◌∷◌}
@@ -11,22 +10,22 @@ use native.Mathlib.Omega.{arith}
 use borrow.Author.Tests.{ltb-true, leb-true, eqb-true, not-false, lt-ltb, le-leb, eq-eqb}
 use lib.ListN.{length, take, drop, get_or, replicate, get_or-replicate, length-append, length-take, length-drop, take-append-drop}
 use lib.Seq.{get_or-drop, take_all, take_at, drop_at, drop-drop, length-take-le, get_or-take}
-use Rattle.laws.specs.Tests.{◌=?◌, all_of}
+use Rattle.laws.specs.Tests.{◌=?◌, all_of, found}
 use Rattle.laws.specs.Lists.{rows}
 use Rattle.laws.specs.Sums.{total}
-use Rattle.laws.proofs.Tests.{each_of, lt_or_ge}
-use Rattle.rules.specs.Answer.{done, refuse◌if◌else◌}
+use Rattle.laws.proofs.Tests.{each_of, lt_or_ge, none≢some, some_same}
+use Rattle.rules.specs.Answer.{done, refused, refuse◌if◌else◌}
 use Rattle.rules.proofs.Answers.{passed, same_done}
+use Rattle.refusal.proofs.Answers.{done_refused}
 use Rattle.table.specs.Table.{Checked}
 use Rattle.table.specs.declared.Table.{Table}
 use Rattle.table.proofs.Facts.{ranges}
 use Rattle.common.specs.declared.Common.{Common}
-use Rattle.common.specs.Common.{Given}
+use Rattle.common.specs.Common.{last_of, Given}
 use Rattle.words.specs.Words.{BytesIn}
-use Rattle.states.specs.declared.commons.CommonIn.{CommonIn}
-use Rattle.states.specs.Common.{mark, common_words, common_in, all_below, small_common, in_place, known_tasks, known_common, common_at, told_common}
+use Rattle.states.specs.Common.{mark, common_words, last_in, common_in, all_below, small_common, in_place, known_tasks, known_common, common_at}
 use Rattle.states.proofs.Below.{each_below, are_below, zeros, zeros_below}
-use Rattle.states.proofs.Words.{mark_back, mark_small, word_back, or_second, or_first, front, where_zero}
+use Rattle.states.proofs.Words.{word_back, or_second, front}
 use Rattle.states.proofs.Sizes.{Sizes, sizes_given, given_sizes}
 
 -- what the words have passed
@@ -42,18 +41,13 @@ taken h =
     let b = passed 102 _ a.1 in
     record { long = eqb-true _ 326 (not-false _ a.0); known = not-false _ b.0; is = same_done b.1 }
 
--- what a refusal of 0 says, and any other
-pub done_where_zero : (t : Table) (ws : List ℕ) {x : CommonIn} → x ≡ told_common (common_at t ws) → x.refusal ≡ 0 → common_at t ws ≡ done x.common
+-- what a refusal says of words that are as many as they should be
+pub unknown_else : (t : Table) (ws : List ℕ) → length ws ≡ 326 → {n : ℕ} → refused n ≡ common_at t ws → known_common t ws ≡ false
 unfolding common_at
-done_where_zero t ws p z =
-    where_zero told_common (λ x. x.refusal) (λ x. x.common) (λ n. refl) (λ c. refl) (not (length ws =? 326)) (not (known_common t ws)) (common_in ws) p z
-
-pub unknown_else : (t : Table) (ws : List ℕ) → length ws ≡ 326 → {x : CommonIn} → x ≡ told_common (common_at t ws) → (x.refusal ≡ 0 → ⊥) → known_common t ws ≡ false
-unfolding common_at
-unknown_else t ws l {x} p z = by (known_common t ws) (p ∙ rw (eq-eqb (length ws) 326 l))
+unknown_else t ws l {n} p = by (known_common t ws) (p ∙ rw (eq-eqb (length ws) 326 l))
   where
-    by : (b : Bool) → x ≡ told_common (refuse 102 if not b else done (common_in ws)) → b ≡ false
-    by true e = absurd (z (ap (λ (x : CommonIn). x.refusal) e))
+    by : (b : Bool) → refused n ≡ (refuse 102 if not b else done (common_in ws)) → b ≡ false
+    by true e = absurd (done_refused (sym e))
     by false e = refl
 
 pub record Small (begun last start count : ℕ) : Type 0 where
@@ -86,6 +80,32 @@ placed base offset count released h =
     let a = each_of _ h in
     record { up = leb-true base offset (a 0); within = leb-true offset (base + count) (a 1); counted = leb-true (base + count) released (a 2) }
 
+-- a mark and a time are those of a last round, or of none
+module _ {begun last start count : ℕ} (s : Small begun last start count) where
+  abbrev read : Option ℕ
+  read = last_in begun last
+
+  last_below : (l : ℕ) → read ≡ Some l → l < 2 ^ 48
+  last_below = by (begun =? 1)
+    where
+      by : (b : Bool) (l : ℕ) → (if b then Some last else None) ≡ Some l → l < 2 ^ 48
+      by true l e = let d : last ≡ l = some_same (ap last_of e) in omega (arith, d, s.last_small)
+      by false l e = none≢some (ap last_of e)
+
+  begun_same : mark (found (last_of read)) ≡ begun
+  begun_same = ap mark (by (begun =? 1)) ∙ word_back begun s.one
+    where
+      by : (b : Bool) → found (last_of (if b then Some last else None)) ≡ b
+      by true = refl
+      by false = refl
+
+  last_same : unwrap_or read 0 ≡ last
+  last_same = by (begun =? 1) refl
+    where
+      by : (b : Bool) → (begun =? 1) ≡ b → unwrap_or (if b then Some last else None) 0 ≡ last
+      by true e = refl
+      by false e = sym (s.unbegun e)
+
 module _ (ws : List ℕ) (long : length ws ≡ 326) where
   places : length (common_in ws).tasks ≡ 256
   unfolding common_in
@@ -111,8 +131,7 @@ module _ (ws : List ℕ) (long : length ws ≡ 326) where
         record {
           places = places;
           earliest_places = earliest_places;
-          unbegun = sized.unbegun;
-          last = sized.last_small;
+          last = last_below sized;
           start = sized.start_small;
           few = few;
           earliest = λ i l. each_below (2 ^ 49) c.earliest (a 1) i (omega (arith, earliest_places));
@@ -131,7 +150,7 @@ module _ (ws : List ℕ) (long : length ws ≡ 326) where
     unfolding common_words common_in rows
     words_same =
         let e : take 256 (drop 70 ws) ≡ drop 64 (drop 6 ws) = take_all 256 (drop 70 ws) (rw length-drop (omega arith)) ∙ sym (drop-drop 64 6 ws) in
-        rw (word_back (get_or ws 4 0) sized.one, e, take-append-drop 64 (drop 6 ws)) (front 6 ws (omega arith))
+        rw (begun_same sized, last_same sized, e, take-append-drop 64 (drop 6 ws)) (front 6 ws (omega arith))
 
     -- the places of the tasks hold bytes
     pub known_bytes : Checked t → BytesIn 256 70 ws
@@ -159,14 +178,15 @@ taken_given t ws h =
     let k = taken h in
     subst (Given t) k.is (sizes_given (known_sizes ws k.long t k.known))
 
-pub zero_given : (t : Table) (ws : List ℕ) {x : CommonIn} → x ≡ told_common (common_at t ws) → x.refusal ≡ 0 → Given t x.common
-zero_given t ws p z = taken_given t ws (done_where_zero t ws p z)
-
 -- and its words are those that came in
 pub taken_words : (t : Table) (ws : List ℕ) {c : Common} → common_at t ws ≡ done c → common_words c ≡ ws
 taken_words t ws h =
     let k = taken h in
     ap common_words (sym k.is) ∙ words_same ws k.long t k.known
+
+last_back : (o : Option ℕ) → last_in (mark (found (last_of o))) (unwrap_or o 0) ≡ o
+last_back None = refl
+last_back (Some l) = refl
 
 module _ {t : Table} {c : Common} (s : Sizes t c) where
   pub words_long : length (common_words c) ≡ 326
@@ -182,20 +202,13 @@ module _ {t : Table} {c : Common} (s : Sizes t c) where
     start = c.start;
     offset = c.offset;
     earliest = take_at c.earliest c.tasks 64 s.earliest_places i;
-    begun = mark_back c.begun i;
-    last = c.last;
+    last = last_back c.last i;
   }
 
-  small_yes : small_common (mark c.begun) c.last c.start c.count ≡ true
+  small_yes : (o : Option ℕ) → ((l : ℕ) → o ≡ Some l → l < 2 ^ 48) → small_common (mark (found (last_of o))) (unwrap_or o 0) c.start c.count ≡ true
   unfolding small_common all_of
-  small_yes =
-      rw (
-        le-leb (mark c.begun) 1 (mark_small c.begun),
-        or_first (mark c.begun =? 1) (c.last =? 0) (λ e. eq-eqb c.last 0 (s.unbegun (sym (mark_back c.begun) ∙ e))),
-        lt-ltb c.last (2 ^ 48) s.last,
-        lt-ltb c.start (2 ^ 49) s.start,
-        le-leb c.count 256 s.few,
-      )
+  small_yes None h = rw (lt-ltb c.start (2 ^ 49) s.start, le-leb c.count 256 s.few)
+  small_yes (Some l) h = rw (lt-ltb l (2 ^ 48) (h l refl), lt-ltb c.start (2 ^ 49) s.start, le-leb c.count 256 s.few)
 
   placed_yes : in_place c.base c.offset c.count (total c.earliest) ≡ true
   unfolding in_place all_of
@@ -218,10 +231,10 @@ module _ {t : Table} {c : Common} (s : Sizes t c) where
       )
 
   -- the conditions of a record, of words that say it
-  abbrev conditions : ℕ → Common → Bool
-  conditions begun c =
+  abbrev conditions : ℕ → ℕ → Common → Bool
+  conditions begun last c =
       all_of (
-      small_common begun c.last c.start c.count
+      small_common begun last c.start c.count
       ∷ all_below (2 ^ 49) c.earliest
       ∷ in_place c.base c.offset c.count (total c.earliest)
       ∷ known_tasks t.count c.count c.tasks ∷ [])
@@ -229,9 +242,9 @@ module _ {t : Table} {c : Common} (s : Sizes t c) where
   pub known_back : known_common t (common_words c) ≡ true
   unfolding known_common common_words all_of
   known_back =
-      ap (conditions (mark c.begun)) same_back
+      ap (conditions (mark (found (last_of c.last))) (unwrap_or c.last 0)) same_back
       ∙ rw (
-        small_yes,
+        small_yes c.last s.last,
         are_below (2 ^ 49) c.earliest (λ i l. s.earliest i (omega (arith, s.earliest_places))),
         placed_yes,
         tasks_yes,

@@ -1,9 +1,8 @@
--- The words of a node are a written form of it: what is taken is `Given`, its words are those that came in, and no node that was given back is refused.
---     taken-given, taken-words, given-taken     the three
---     zero-given                                the first, of what `node_in` answers
-use Rattle.std.specs.Prelude.{if◌then◌else◌}
+-- The words of a node are a written form of it: what is taken is `Given`, its words are those that came in, and no node that was given back is refused:
+-- `taken_given`, `taken_words`, `given_taken`.
+use Rattle.std.specs.Prelude.{Option, Some, None, if◌then◌else◌}
 use mathlib.Core.Path.{◌≡◌, refl, sym, ap, subst, ◌∙◌}
-use mathlib.Core.Bool.{Bool, true, false, not, false≢true}
+use mathlib.Core.Bool.{Bool, true, false, false≢true}
 use mathlib.Core.Logic.{◌⊎◌, inl, inr, ⊎_elim}
 use mathlib.Core.Option.{some}
 use mathlib.Core.List.{List, [], ◌∷◌, ◌++◌}
@@ -25,15 +24,12 @@ use Rattle.common.specs.Common.{common_of}
 use Rattle.common.specs.Common as commons
 use Rattle.common.proofs.Records.{length_is}
 use Rattle.node.specs.declared.Sent.{Sent}
-use Rattle.node.specs.declared.Opening.{Opening}
-use Rattle.node.specs.declared.Opening.TheVariants as opening
 use Rattle.node.specs.declared.Node.{Node}
 use Rattle.node.specs.Node.{round_of, Given}
 use Rattle.node.proofs.Laws.{common_given}
-use Rattle.states.specs.declared.nodes.NodeIn.{NodeIn}
 use Rattle.states.specs.Common.{mark, common_words, common_in, known_common}
-use Rattle.states.specs.Node.{sent_of, round_words, node_words, sent_in, round_in, node_in, known_own, known_sent, none_sent, known_round, known_before, known_node, node_at, told_node}
-use Rattle.states.proofs.Words.{mark_back, mark_small, word_back, front, where_zero}
+use Rattle.states.specs.Node.{sent_of, round_words, node_words, sent_in, round_in, node_in, known_own, known_sent, none_sent, known_round, known_before, known_node, node_at}
+use Rattle.states.proofs.Words.{mark_back, mark_small, word_back, front}
 use Rattle.states.proofs.Sizes.{Sizes, sizes_given, given_sizes}
 use Rattle.states.proofs.Common.{known_sizes, words_same, words_long, same_back, known_back}
 
@@ -82,7 +78,7 @@ module _ (last opened : ℕ) (s : Sent) where
       by false true e f h = inr (eqb-true opened 1 f, h)
       by false false e f h = absurd (false≢true h)
 
-  sent_sound : (c : Common) → last ≡ L (common_of c) → known_sent last s ≡ true → (o : rules.Open) → round_of (opening.Open s) ≡ some o → SoundOpen (common_of c) o
+  sent_sound : (c : Common) → last ≡ L (common_of c) → known_sent last s ≡ true → (o : rules.Open) → round_of (Some s) ≡ some o → SoundOpen (common_of c) o
   unfolding known_sent
   sent_sound c l h o e =
       let a = each_of _ h in
@@ -165,27 +161,21 @@ taken_given t ws h =
     let k = taken h in
     subst (Given t) k.is (known_given ws k.long t k.known)
 
-pub zero_given : (t : Table) (ws : List ℕ) {x : NodeIn} → x ≡ told_node (node_at t ws) → x.refusal ≡ 0 → Given t x.node
-unfolding node_at
-zero_given t ws p z =
-    taken_given t ws
-    (where_zero told_node (λ x. x.refusal) (λ x. x.node) (λ n. refl) (λ n. refl) (not (length ws =? 336)) (not (known_node t ws)) (node_in ws) p z)
-
 -- and its words are those that came in
 pub taken_words : (t : Table) (ws : List ℕ) {n : Node} → node_at t ws ≡ done n → node_words n ≡ ws
 taken_words t ws h =
     let k = taken h in
     ap node_words (sym k.is) ∙ node_same ws k.long t k.known
 
-round_back : (o : Opening) → round_in (mark (found (round_of o))) (sent_of o) ≡ o
-round_back opening.Shut = refl
-round_back (opening.Open s) = refl
+round_back : (o : Option Sent) → round_in (mark (found (round_of o))) (sent_of o) ≡ o
+round_back None = refl
+round_back (Some s) = refl
 
-round_yes : (c : Common) (last : ℕ) → last ≡ L (common_of c) → (o : Opening) → ((r : rules.Open) → round_of o ≡ some r → SoundOpen (common_of c) r)
+round_yes : (c : Common) (last : ℕ) → last ≡ L (common_of c) → (o : Option Sent) → ((r : rules.Open) → round_of o ≡ some r → SoundOpen (common_of c) r)
     → known_round last (mark (found (round_of o))) (sent_of o) ≡ true
 unfolding known_round none_sent known_sent all_of
-round_yes c last l opening.Shut f = refl
-round_yes c last l (opening.Open s) f =
+round_yes c last l None f = refl
+round_yes c last l (Some s) f =
     let a = f _ refl in
     rw (
       lt-ltb s.time (2 ^ 48) a.time,

@@ -1,31 +1,28 @@
 -- What `Given` says of a common record by value, in its own numbers.
-use Rattle.std.specs.Prelude.{if◌then◌else◌}
+use Rattle.std.specs.Prelude.{Option, Some, None}
 use mathlib.Core.Path.{◌≡◌, refl, sym, ap, ◌∙◌}
-use mathlib.Core.Bool.{Bool, true, false}
 use mathlib.Core.Logic.{⊎_elim}
-use mathlib.Core.Option.{Option, none, some}
+use mathlib.Core.Option.{some}
 use mathlib.Core.List.{List, [], ◌∷◌, ◌++◌, map}
 use Prim.Native.Nat.{ℕ, ◌+◌, ◌-◌, ◌^◌, ◌≤◌, ◌<◌}
 use native.Mathlib.Omega.{arith}
 use lib.ListN.{length, take, drop, get_or, replicate, length-map, take-append-drop, get_or-map, get_or-eq_default}
 use lib.Seq.{length-take-le, get_or-take, drop_at}
-use Rattle.laws.specs.Tests.{found, maybe}
 use Rattle.laws.specs.Lists.{pad}
 use Rattle.laws.specs.Sums.{total}
-use Rattle.laws.proofs.Tests.{lt_or_ge}
+use Rattle.laws.proofs.Tests.{lt_or_ge, none≢some, some_same}
 use Rattle.rules.specs.Common as rules
 use Rattle.table.specs.Table.{table_of}
 use Rattle.table.specs.declared.Table.{Table}
 use Rattle.table.proofs.Facts.{tasks_count}
 use Rattle.common.specs.declared.Common.{Common}
-use Rattle.common.specs.Common.{job_of, common_of, common_as, Given}
+use Rattle.common.specs.Common.{job_of, last_of, last_as, common_of, common_as, Given}
 use Rattle.common.proofs.Records.{Numbers, numbers, kept_count, length_is}
 
 pub record Sizes (t : Table) (c : Common) : Type 0 where
   pub places : length c.tasks ≡ 256
   pub earliest_places : length c.earliest ≡ 64
-  pub unbegun : c.begun ≡ false → c.last ≡ 0
-  pub last : c.last < 2 ^ 48
+  pub last : (l : ℕ) → c.last ≡ Some l → l < 2 ^ 48
   pub start : c.start < 2 ^ 49
   pub few : c.count ≤ 256
   pub earliest : (i : ℕ) → i < 64 → get_or c.earliest i 0 < 2 ^ 49
@@ -35,20 +32,13 @@ pub record Sizes (t : Table) (c : Common) : Type 0 where
   pub task : (k : ℕ) → k < c.count → get_or c.tasks k 0 < t.count
   pub unused : drop c.count c.tasks ≡ replicate (256 - c.count) 0
 
-abbrev last_of : Bool → ℕ → Option ℕ
-last_of b l = if b then some l else none
+last_back : (o : Option ℕ) → o ≡ last_as (last_of o)
+last_back None = refl
+last_back (Some l) = refl
 
-begun_back : (b : Bool) (l : ℕ) → b ≡ found (last_of b l)
-begun_back true l = refl
-begun_back false l = refl
-
-last_back : (b : Bool) (l : ℕ) → (b ≡ false → l ≡ 0) → l ≡ maybe 0 (λ l. l) (last_of b l)
-last_back true l h = refl
-last_back false l h = h refl
-
-last_small : (b : Bool) (l : ℕ) → l < 2 ^ 48 → (n : ℕ) → last_of b l ≡ some n → n < 2 ^ 48
-last_small true l h n e = let d : l ≡ n = cc in omega arith
-last_small false l h n e = let z : ◌≡◌ {A = ℕ} 0 1 = cc in absurd (omega arith)
+last_small : (o : Option ℕ) → ((l : ℕ) → o ≡ Some l → l < 2 ^ 48) → (l : ℕ) → last_of o ≡ some l → l < 2 ^ 48
+last_small None h l e = none≢some e
+last_small (Some n) h l e = let d : n ≡ l = some_same e in omega (arith, h n refl)
 
 tasks_back : (l : List ℕ) → map (λ j. j.task_of) (map job_of l) ≡ l
 tasks_back [] = refl
@@ -75,8 +65,7 @@ module _ {t : Table} {c : Common} (s : Sizes t c) where
     start = c.start;
     offset = c.offset;
     earliest = c.earliest;
-    begun = begun_back c.begun c.last i;
-    last = last_back c.begun c.last s.unbegun i;
+    last = last_back c.last i;
   }
 
   known : (k : ℕ) → k < length (common_of c).kept → (get_or (common_of c).kept k rules.no_job).task_of < length (table_of t).tasks
@@ -103,16 +92,13 @@ module _ {t : Table} {c : Common} (s : Sizes t c) where
       released = omega (arith, s.released, kept_length);
       E_below = below;
       W_below = s.start;
-      last_below = last_small c.begun c.last s.last;
+      last_below = last_small c.last s.last;
     };
   }
 
 module _ {t : Table} {c : Common} (g : Given t c) where
   n : Numbers t c
   n = numbers g
-
-  not_begun : c.begun ≡ false → c.last ≡ 0
-  not_begun h = ap (λ (c : Common). c.last) g.exact ∙ ap (λ (b : Bool). maybe 0 (λ l. l) (last_of b c.last)) h
 
   blank : drop c.count c.tasks ≡ replicate (256 - c.count) 0
   unfolding pad
@@ -125,7 +111,6 @@ module _ {t : Table} {c : Common} (g : Given t c) where
   given_sizes = record {
     places = n.places;
     earliest_places = n.earliest_places;
-    unbegun = not_begun;
     last = n.last;
     start = n.start;
     few = n.few;

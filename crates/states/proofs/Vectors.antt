@@ -5,8 +5,9 @@ use Prim.Native.Nat.{ℕ, ◌^◌, ◌-◌}
 use lib.ListN.{drop, replicate, set}
 use Rattle.laws.specs.Tests.{all_of}
 use Rattle.laws.specs.Sums.{total}
+use Rattle.rules.specs.Answer.{Answer, done, refused, refused_by}
 use Rattle.table.specs.declared.Table.{Table}
-use Rattle.states.specs.Common.{common_in, all_below, small_common, in_place, known_tasks, known_common, common_at, told_common}
+use Rattle.states.specs.Common.{common_in, all_below, small_common, in_place, known_tasks, known_common, common_at}
 
 abbrev pub three : Table
 three = record { nodes = 3; timeout = 2; count = 3; longest = []; distance = []; deadline = []; slack = [] }
@@ -15,9 +16,15 @@ three = record { nodes = 3; timeout = 2; count = 3; longest = []; distance = [];
 unfoldable pub words : List ℕ
 words = 3 ∷ 122 ∷ 3 ∷ 1 ∷ 1 ∷ 120 ∷ (220 ∷ replicate 63 0) ++ (2 ∷ replicate 255 0)
 
+-- the number of a refusal, 0 where the words are taken
+abbrev pub number : {A : Type 0} → Answer A → ℕ
+number (done a) = 0
+number (refused n) = n
+number (refused_by n i) = n
+
 -- the refusal, with the word at a place changed
 refusal_at : ℕ → ℕ → ℕ
-refusal_at place word = (told_common (common_at three (set words place word))).refusal
+refusal_at place word = number (common_at three (set words place word))
 
 unfoldable pub opened : Unit {0}
 unfolding common_at known_common common_in small_common in_place known_tasks all_below all_of total words refusal_at
@@ -66,6 +73,6 @@ other_tasks : (refusal_at 70 0 ≡ 0) × (refusal_at 70 3 ≡ 102) × (refusal_a
 unfolding opened
 other_tasks = (refl, refl, refl, refl)
 
-wrong_length : ((told_common (common_at three (drop 1 words))).refusal ≡ 100) × ((told_common (common_at three (0 ∷ words))).refusal ≡ 100)
+wrong_length : (number (common_at three (drop 1 words)) ≡ 100) × (number (common_at three (0 ∷ words)) ≡ 100)
 unfolding opened
 wrong_length = (refl, refl)

@@ -3,8 +3,8 @@ use mathlib.Core.Path.{◌≡◌, refl}
 use mathlib.Core.List.{List, ◌∷◌}
 use Prim.Native.Nat.{ℕ, ◌^◌, ◌-◌}
 use lib.ListN.{drop, set}
-use Rattle.states.specs.Node.{sent_in, node_in, known_own, known_sent, none_sent, known_round, known_before, known_node, node_at, told_node}
-use Rattle.states.proofs.Vectors.{three, words, opened}
+use Rattle.states.specs.Node.{sent_in, node_in, known_own, known_sent, none_sent, known_round, known_before, known_node, node_at}
+use Rattle.states.proofs.Vectors.{three, words, number, opened}
 
 -- Node 2 has finished 3 jobs, the last at 110, and runs the fourth; its latest time is 120, and for the round at 120 it sent 3, 110, 1. L is 4.
 node : List ℕ
@@ -16,7 +16,7 @@ shut = 2 ∷ 3 ∷ 110 ∷ 1 ∷ 120 ∷ 0 ∷ 0 ∷ 0 ∷ 0 ∷ 0 ∷ words
 
 -- the refusal, with the word at a place changed
 refusal_at : List ℕ → ℕ → ℕ → ℕ
-refusal_at ws place word = (told_node (node_at three (set ws place word))).refusal
+refusal_at ws place word = number (node_at three (set ws place word))
 
 unfoldable node_opened : Unit {0}
 unfolding opened node_at known_node known_before known_own known_round known_sent none_sent sent_in node_in node shut refusal_at
@@ -57,6 +57,6 @@ other_common : (refusal_at node 10 4 ≡ 102) × (refusal_at node 335 1 ≡ 102)
 unfolding node_opened
 other_common = (refl, refl)
 
-wrong_length : ((told_node (node_at three (drop 1 node))).refusal ≡ 100) × ((told_node (node_at three (0 ∷ node))).refusal ≡ 100)
+wrong_length : (number (node_at three (drop 1 node)) ≡ 100) × (number (node_at three (0 ∷ node)) ≡ 100)
 unfolding node_opened
 wrong_length = (refl, refl)

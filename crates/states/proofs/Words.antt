@@ -1,4 +1,4 @@
--- Laws of marks as words, of the first words of a list, of sums that might wrap, and of answers in structs.
+-- Laws of marks as words, of the first words of a list, and of sums that might wrap.
 use mathlib.Core.Path.{◌≡◌, refl, sym, ap, ◌∙◌}
 use mathlib.Core.Bool.{Bool, true, false, ◌||◌, true≢false}
 use mathlib.Core.List.{List, [], ◌∷◌, ◌++◌}
@@ -10,7 +10,6 @@ use lib.ListN.{length, drop, get_or}
 use Rattle.laws.specs.Tests.{◌=?◌, ◌≤?◌}
 use Rattle.laws.specs.Lists.{rows}
 use Rattle.laws.proofs.Tests.{eqb_cases, lt_or_ge}
-use Rattle.rules.specs.Answer.{Answer, done, refused, refuse◌if◌else◌}
 use Rattle.states.specs.Common.{mark}
 
 pub mark_back : (b : Bool) → (mark b =? 1) ≡ b
@@ -34,10 +33,6 @@ pub or_second : (a b : Bool) → (a || b) ≡ true → a ≡ false → b ≡ tru
 or_second true b h e = absurd (true≢false e)
 or_second false b h e = h
 
-pub or_first : (a b : Bool) → (a ≡ false → b ≡ true) → (a || b) ≡ true
-or_first true b f = refl
-or_first false b f = f refl
-
 -- a list from its first n elements on
 pub front : (n : ℕ) (l : List ℕ) → n ≤ length l → rows (λ k. get_or l k 0) n ++ drop n l ≡ l
 unfolding rows
@@ -49,12 +44,3 @@ front (suc n) (x ∷ l) h = ap (λ (m : List ℕ). x ∷ m) (front n l (omega ar
 pub by_difference : (a b c : ℕ) → a ≤ c → (b ≤? c - a) ≡ (a + b ≤? c)
 by_difference a b c h =
     ⊎_elim (λ l. lt-leb b (c - a) l ∙ sym (lt-leb (a + b) c (omega arith))) (λ l. le-leb b (c - a) l ∙ sym (le-leb (a + b) c (omega arith))) (lt_or_ge (c - a) b)
-
--- an answer in a struct: a refusal of 0 stands beside what was asked for
-module _ {A X : Type 0} (f : Answer A → X) (number : X → ℕ) (value : X → A) where
-  pub where_zero : ((n : ℕ) → number (f (refused n)) ≡ n) → ((y : A) → value (f (done y)) ≡ y)
-      → (a b : Bool) (y : A) {x : X} → x ≡ f (refuse 100 if a else refuse 102 if b else done y) → number x ≡ 0
-      → (refuse 100 if a else refuse 102 if b else done y) ≡ done (value x)
-  where_zero k v true b y p z = absurd (omega (arith, z, ap number p, k 100))
-  where_zero k v false true y p z = absurd (omega (arith, z, ap number p, k 102))
-  where_zero k v false false y p z = ap done (sym (ap value p ∙ v y))

@@ -1,13 +1,11 @@
 -- The words of a common record, and which words are those of one.
-use Rattle.std.specs.Prelude.{Bool, not, ◌||◌, List, [], ◌∷◌, ◌++◌, map, ℕ, ◌+◌, ◌^◌, length, take, drop, get_or, if◌then◌else◌}
-use Rattle.laws.specs.Tests.{◌<?◌, ◌≤?◌, ◌=?◌, all_of}
+use Rattle.std.specs.Prelude.{Option, Some, None, unwrap_or, Bool, not, ◌||◌, List, [], ◌∷◌, ◌++◌, map, ℕ, ◌+◌, ◌^◌, length, take, drop, get_or, if◌then◌else◌}
+use Rattle.laws.specs.Tests.{◌<?◌, ◌≤?◌, ◌=?◌, all_of, found}
 use Rattle.laws.specs.Sums.{total}
-use Rattle.rules.specs.Answer.{Answer, done, refused, refused_by, refuse◌if◌else◌}
-use Rattle.rules.specs.Common.{fresh}
+use Rattle.rules.specs.Answer.{Answer, done, refuse◌if◌else◌}
 use Rattle.table.specs.declared.Table.{Table}
 use Rattle.common.specs.declared.Common.{Common}
-use Rattle.common.specs.Common.{common_as}
-use Rattle.states.specs.declared.commons.CommonIn.{CommonIn}
+use Rattle.common.specs.Common.{last_of}
 
 -- A mark as a word.
 abbrev pub mark : Bool → ℕ
@@ -15,7 +13,11 @@ mark b = if b then 1 else 0
 
 -- B, W, O, how many jobs are kept, whether a round has been and its time; E; the tasks of the jobs kept.
 unfoldable pub common_words : Common → List ℕ
-common_words c = c.base ∷ c.start ∷ c.offset ∷ c.count ∷ mark c.begun ∷ c.last ∷ (c.earliest ++ c.tasks)
+common_words c = c.base ∷ c.start ∷ c.offset ∷ c.count ∷ mark (found (last_of c.last)) ∷ unwrap_or c.last 0 ∷ (c.earliest ++ c.tasks)
+
+-- "The last round's time", where a round has been.
+abbrev pub last_in : ℕ → ℕ → Option ℕ
+last_in begun last = if begun =? 1 then Some last else None
 
 -- The record at the same places.
 unfoldable pub common_in : List ℕ → Common
@@ -26,8 +28,7 @@ common_in ws = record {
   start = get_or ws 1 0;
   offset = get_or ws 2 0;
   earliest = take 64 (drop 6 ws);
-  begun = get_or ws 4 0 =? 1;
-  last = get_or ws 5 0;
+  last = last_in (get_or ws 4 0) (get_or ws 5 0);
 }
 
 unfoldable pub all_below : ℕ → List ℕ → Bool
@@ -51,7 +52,7 @@ unfoldable pub known_common : Table → List ℕ → Bool
 known_common t ws =
     let c = common_in ws in
     all_of (
-    small_common (get_or ws 4 0) c.last c.start c.count
+    small_common (get_or ws 4 0) (get_or ws 5 0) c.start c.count
     ∷ all_below (2 ^ 49) c.earliest
     ∷ in_place c.base c.offset c.count (total c.earliest)
     ∷ known_tasks t.count c.count c.tasks ∷ [])
@@ -59,11 +60,3 @@ known_common t ws =
 -- 100: "a lent array has another length than the call states"; 102: "the state is none that this library writes under this table".
 unfoldable pub common_at : Table → List ℕ → Answer Common
 common_at t ws = refuse 100 if not (length ws =? 326) else refuse 102 if not (known_common t ws) else done (common_in ws)
-
-abbrev pub no_common : ℕ → CommonIn
-no_common n = record { refusal = n; common = common_as fresh }
-
-abbrev pub told_common : Answer Common → CommonIn
-told_common (done c) = record { refusal = 0; common = c }
-told_common (refused n) = no_common n
-told_common (refused_by n i) = no_common n

@@ -1,24 +1,20 @@
 -- The words of a node, and which words are those of one.
-use Rattle.std.specs.Prelude.{Bool, false, not, List, [], ◌∷◌, ◌++◌, ℕ, ◌+◌, ◌^◌, length, drop, get_or, if◌then◌else◌}
+use Rattle.std.specs.Prelude.{Option, Some, None, Bool, false, not, List, [], ◌∷◌, ◌++◌, ℕ, ◌+◌, ◌^◌, length, drop, get_or, if◌then◌else◌}
 use Rattle.laws.specs.Tests.{◌<?◌, ◌≤?◌, ◌=?◌, all_of, found}
-use Rattle.rules.specs.Answer.{Answer, done, refused, refused_by, refuse◌if◌else◌}
-use Rattle.rules.specs.Node.{new_node}
+use Rattle.rules.specs.Answer.{Answer, done, refuse◌if◌else◌}
 use Rattle.table.specs.declared.Table.{Table}
 use Rattle.node.specs.declared.Sent.{Sent}
-use Rattle.node.specs.declared.Opening.{Opening}
-use Rattle.node.specs.declared.Opening.TheVariants as opening
 use Rattle.node.specs.declared.Node.{Node}
-use Rattle.node.specs.Node.{round_of, node_as}
-use Rattle.states.specs.declared.nodes.NodeIn.{NodeIn}
+use Rattle.node.specs.Node.{round_of}
 use Rattle.states.specs.Common.{mark, common_words, common_in, known_common}
 
 -- What was sent for the round that is open: zeros where none is.
-abbrev pub sent_of : Opening → Sent
-sent_of opening.Shut = record { time = 0; report = record { progress = 0; completed = 0; run = 0 } }
-sent_of (opening.Open s) = s
+abbrev pub sent_of : Option Sent → Sent
+sent_of None = record { time = 0; report = record { progress = 0; completed = 0; run = 0 } }
+sent_of (Some s) = s
 
 -- "possibly an open round": a mark, its time, and what was sent.
-abbrev pub round_words : Opening → List ℕ
+abbrev pub round_words : Option Sent → List ℕ
 round_words o =
     let s = sent_of o in
     mark (found (round_of o)) ∷ s.time ∷ s.report.progress ∷ s.report.completed ∷ s.report.run ∷ []
@@ -32,8 +28,8 @@ node_words n = n.number ∷ n.progress ∷ n.completed ∷ mark n.running ∷ n.
 unfoldable pub sent_in : List ℕ → Sent
 sent_in ws = record { time = get_or ws 6 0; report = record { progress = get_or ws 7 0; completed = get_or ws 8 0; run = get_or ws 9 0 } }
 
-abbrev pub round_in : ℕ → Sent → Opening
-round_in opened s = if opened =? 1 then opening.Open s else opening.Shut
+abbrev pub round_in : ℕ → Sent → Option Sent
+round_in opened s = if opened =? 1 then Some s else None
 
 unfoldable pub node_in : List ℕ → Node
 node_in ws = record {
@@ -77,11 +73,3 @@ known_node t ws =
 -- 100: "a lent array has another length than the call states"; 102: "the state is none that this library writes under this table".
 unfoldable pub node_at : Table → List ℕ → Answer Node
 node_at t ws = refuse 100 if not (length ws =? 336) else refuse 102 if not (known_node t ws) else done (node_in ws)
-
-abbrev pub no_node : ℕ → NodeIn
-no_node n = record { refusal = n; node = node_as (new_node 0) }
-
-abbrev pub told_node : Answer Node → NodeIn
-told_node (done n) = record { refusal = 0; node = n }
-told_node (refused k) = no_node k
-told_node (refused_by k i) = no_node k

@@ -4,4 +4,3 @@
 
 pub mod commons; // commons.rt: the words of a common record
 pub mod nodes; // nodes.rt: the words of a node
-mod runs; // runs.rt: a mark as a word, a run of words put in

@@ -1,33 +1,19 @@
 // The words of a node: taken where this library may have written them, and written.
 ghost use Rattle.std.specs.Prelude.{◌≡◌, length, drop};
+ghost use Rattle.refusal.specs.Refusal.{answer_of};
 ghost use Rattle.table.specs.Table.{Checked};
 ghost use Rattle.states.specs.Common.{common_in};
-ghost use Rattle.states.specs.Node.{round_words, node_words, sent_in, round_in, node_in, known_own, known_sent, none_sent, known_round, known_before, node_at, no_node, told_node};
+ghost use Rattle.states.specs.Node.{round_words, node_words, sent_in, round_in, node_in, known_own, known_sent, none_sent, known_round, known_before, node_at};
 
 use crate::commons::{common_in, put_common};
-use crate::runs::{mark, put_run};
 use common::Common;
-use node::{Node, Opening, Sent, fresh_node};
+use node::{Node, Opening, Sent};
+use refusal::Refusal;
 use round::Report;
 use table::Table;
 
-// What the words say, or the refusal; beside a refusal stands the fresh node of number 0.
-#[derive(Clone, Copy)]
-pub struct NodeIn {
-    pub refusal: u64,
-    pub node: Node,
-}
-
-// The fresh node of number 0 stands beside every answer of fresh_node for it.
-fn no_node(t: Table, n: u64) -> NodeIn
-    ensures { result ≡ no_node n }
-{
-    let making = fresh_node(t, 0);
-    let node = making.node;
-    NodeIn { refusal: n, node }
-}
-
 // The sum by a difference: progress may be any word, and progress + running might wrap.
+#[tactic(auto, using(laws::proofs::Sequences::all_left, crate::proofs::Words::by_difference), unfolding(crate::specs::Node::known_own, laws::specs::Tests::all_of))]
 fn known_own(
     nodes: u64,
     last: u64,
@@ -49,6 +35,7 @@ fn known_own(
         & (latest < 0x2_0000_0000_0000)
 }
 
+#[tactic(auto, using(laws::proofs::Sequences::all_left), unfolding(crate::specs::Node::known_sent))]
 fn known_sent(last: u64, s: Sent) -> bool
     ensures { result ≡ known_sent last s }
 {
@@ -58,6 +45,7 @@ fn known_sent(last: u64, s: Sent) -> bool
         & (s.report.run <= 1)
 }
 
+#[tactic(auto, using(laws::proofs::Sequences::all_left), unfolding(crate::specs::Node::none_sent))]
 fn none_sent(s: Sent) -> bool
     ensures { result ≡ none_sent s }
 {
@@ -65,6 +53,7 @@ fn none_sent(s: Sent) -> bool
 }
 
 // What was sent while a round is open, else zeros.
+#[tactic(auto, unfolding(crate::specs::Node::known_round))]
 fn known_round(last: u64, opened: u64, s: Sent) -> bool
     ensures { result ≡ known_round last opened s }
 {
@@ -77,6 +66,7 @@ fn known_round(last: u64, opened: u64, s: Sent) -> bool
     false
 }
 
+#[tactic(auto, unfolding(crate::specs::Node::sent_in))]
 fn sent_in(words: &[u64]) -> Sent
     requires { length words.now ≡ 336 }
     ensures { result ≡ sent_in words.now }
@@ -92,6 +82,7 @@ fn sent_in(words: &[u64]) -> Sent
 }
 
 // Everything that is asked of the words before the common record.
+#[tactic(auto, unfolding(crate::specs::Node::known_before, laws::specs::Tests::all_of))]
 fn known_before(nodes: u64, last: u64, words: &[u64]) -> bool
     requires { length words.now ≡ 336 }
     ensures { result ≡ known_before nodes last words.now }
@@ -108,19 +99,15 @@ fn known_before(nodes: u64, last: u64, words: &[u64]) -> bool
 fn round_in(opened: u64, s: Sent) -> Opening
     ensures { result ≡ round_in opened s }
 {
-    if opened == 1 {
-        return Opening::Open(s);
-    }
-    Opening::Shut
+    if opened == 1 { Some(s) } else { None }
 }
 
 // The node at its places, with its common record.
+#[tactic(auto, unfolding(crate::specs::Node::node_in))]
 fn record_in(words: &[u64], common: Common) -> Node
     requires { (length words.now ≡ 336) × (common ≡ common_in (drop 10 words.now)) }
     ensures { result ≡ node_in words.now }
 {
-    let s = sent_in(words);
-    let round = round_in(words[5], s);
     Node {
         number: words[0],
         common,
@@ -128,36 +115,34 @@ fn record_in(words: &[u64], common: Common) -> Node
         completed: words[2],
         running: words[3] == 1,
         latest: words[4],
-        round,
+        round: round_in(words[5], sent_in(words)),
     }
 }
 
 // 100 where the words are not as many as a node has, 102 where this library gave back no such node under the table.
-pub fn node_in(t: Table, words: &[u64]) -> NodeIn
+#[tactic(auto, unfolding(crate::specs::Node::node_at, crate::specs::Node::known_node, laws::specs::Tests::all_of))]
+pub fn node_in(t: Table, words: &[u64]) -> Result<Node, Refusal>
     requires { Checked t }
-    ensures { result ≡ told_node (node_at t words.now) }
+    ensures { answer_of result ≡ node_at t words.now }
 {
     if words.len() != 336 {
-        return no_node(t, 100);
+        return Err(Refusal::WrongLength);
     }
-    let read = common_in(t, &words[10..]);
-    if read.refusal != 0 {
-        return no_node(t, 102);
-    }
-    let common = read.common;
+    let Ok(common) = common_in(t, &words[10..]) else {
+        return Err(Refusal::WrongState);
+    };
     if !known_before(t.nodes, common.base + common.count as u64, words) {
-        return no_node(t, 102);
+        return Err(Refusal::WrongState);
     }
-    let node = record_in(words, common);
-    NodeIn { refusal: 0, node }
+    Ok(record_in(words, common))
 }
 
 fn round_words(round: Opening) -> [u64; 5]
     ensures { result ≡ round_words round }
 {
     match round {
-        Opening::Shut => [0, 0, 0, 0, 0],
-        Opening::Open(s) => [
+        None => [0; 5],
+        Some(s) => [
             1,
             s.time,
             s.report.progress,
@@ -172,12 +157,8 @@ pub fn put_node(words: &mut [u64], n: Node)
     requires { length words.old ≡ 336 }
     ensures { words.new ≡ node_words n }
 {
-    let running = mark(n.running);
-    let head = [n.number, n.progress, n.completed, running, n.latest];
-    let opening = n.round;
-    let round = round_words(opening);
-    let common = n.common;
-    put_run(words, 0, &head);
-    put_run(words, 5, &round);
-    put_common(words, 10, common);
+    let running = u64::from(n.running);
+    words[..5].copy_from_slice(&[n.number, n.progress, n.completed, running, n.latest]);
+    words[5..10].copy_from_slice(&round_words(n.round));
+    put_common(words, 10, n.common);
 }

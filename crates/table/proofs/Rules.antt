@@ -13,7 +13,8 @@ use Rattle.laws.proofs.Lists.{length_rows}
 use Rattle.laws.proofs.Sequences.{rows_drop, all_append}
 use Rattle.rules.specs.Table as rules
 use Rattle.table.specs.declared.Table.{Table}
-use Rattle.table.specs.declared.TableCheck.TheVariants.{Passes, OutOfRange, Broken}
+use Rattle.std.specs.Prelude.{Ok, Err}
+use Rattle.table.specs.declared.TableFault.TheVariants.{OutOfRange, RuleBroken}
 use Rattle.table.specs.Table.{row, table_of}
 use Rattle.table.specs.Check.{answer_of, small_numbers, in_order, keeps_numbers, largest_from}
 use Rattle.table.proofs.Facts.{tasks_count, task_row}
@@ -52,15 +53,15 @@ unfoldable pub breaks_rule : Table → ℕ → Bool
 breaks_rule t i = not (rules.keeps_rules (table_of t) i)
 
 module _ (t : Table) where
-  pub out_refused : rules.out_of_range t.nodes t.timeout t.count ≡ true → answer_of (table_of t) OutOfRange ≡ rules.check (table_of t)
+  pub out_refused : rules.out_of_range t.nodes t.timeout t.count ≡ true → answer_of (table_of t) (Err OutOfRange) ≡ rules.check (table_of t)
   unfolding rules.check
   out_refused e = rw (tasks_count t, e)
 
   module _ (e : rules.out_of_range t.nodes t.timeout t.count ≡ false) where
-    pub rule_refused : (i : ℕ) → lowest (breaks_rule t) t.count ≡ some i → answer_of (table_of t) (Broken i) ≡ rules.check (table_of t)
+    pub rule_refused : (i : ℕ) → lowest (breaks_rule t) t.count ≡ some i → answer_of (table_of t) (Err (RuleBroken i)) ≡ rules.check (table_of t)
     unfolding rules.check breaks_rule
     rule_refused i h = rw (tasks_count t, e, h)
 
-    pub all_kept : lowest (breaks_rule t) t.count ≡ none → answer_of (table_of t) Passes ≡ rules.check (table_of t)
+    pub all_kept : lowest (breaks_rule t) t.count ≡ none → answer_of (table_of t) (Ok tt) ≡ rules.check (table_of t)
     unfolding rules.check breaks_rule
     all_kept h = rw (tasks_count t, e, h)

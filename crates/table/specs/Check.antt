@@ -1,19 +1,26 @@
 -- What the check of a table answers, and the rules of one task read off its numbers.
-use Rattle.std.specs.Prelude.{Bool, not, ◌&&◌, ℕ, ◌+◌, max, drop, get_or}
+use Rattle.std.specs.Prelude.{Result, Ok, Err, Bool, not, ◌&&◌, ℕ, ◌+◌, max, drop, get_or}
 use mathlib.Core.List.{List, [], ◌∷◌, foldr}
 use Rattle.laws.specs.Tests.{◌≤?◌, all_of}
 use Rattle.laws.specs.Search.{first_from}
 use Rattle.laws.specs.Lists.{rows}
 use Rattle.rules.specs.Answer.{Answer, done, refused, refused_by}
 use Rattle.rules.specs.Table as rules
-use Rattle.table.specs.declared.TableCheck.{TableCheck}
-use Rattle.table.specs.declared.TableCheck.TheVariants.{Passes, OutOfRange, Broken}
+use Rattle.refusal.specs.declared.Refusal.{Refusal}
+use Rattle.refusal.specs.declared.Refusal.TheVariants as refusal
+use Rattle.table.specs.declared.TableFault.{TableFault}
+use Rattle.table.specs.declared.TableFault.TheVariants.{OutOfRange, RuleBroken}
 
 -- 1: "node or task count out of range, timeout 0"; 2: "a table rule broken, with the first such task".
-abbrev pub answer_of : rules.Table → TableCheck → Answer rules.Table
-answer_of tab Passes = done tab
-answer_of tab OutOfRange = refused 1
-answer_of tab (Broken i) = refused_by 2 i
+abbrev pub answer_of : rules.Table → Result (Unit {0}) TableFault → Answer rules.Table
+answer_of tab (Ok u) = done tab
+answer_of tab (Err OutOfRange) = refused 1
+answer_of tab (Err (RuleBroken i)) = refused_by 2 i
+
+-- Where no task is told.
+abbrev pub refusal_of : TableFault → Refusal
+refusal_of OutOfRange = refusal.OutOfRange
+refusal_of (RuleBroken i) = refusal.RuleBroken
 
 -- "each at most 4,294,967,295"
 unfoldable pub small_numbers : rules.Task → Bool

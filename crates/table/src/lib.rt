@@ -1,13 +1,18 @@
 // The task table and its check.
 #![tactic(auto)]
 
-ghost use Rattle.std.specs.Prelude.{◌≡◌, ◌≤◌, ◌<◌, max, if◌then◌else◌};
+ghost use Rattle.std.specs.Prelude.{◌≡◌, ◌≤◌, ◌<◌};
 ghost use Rattle.rules.specs.Table.{out_of_range, check};
-ghost use Rattle.table.specs.Table.{table_of};
-ghost use Rattle.table.specs.Check.{answer_of, small_numbers, in_order, keeps_numbers, first_breaking};
+ghost use Rattle.table.specs.Table.{table_of, blank_table};
+ghost use Rattle.table.specs.Check.{answer_of, refusal_of, small_numbers, in_order, keeps_numbers, first_breaking};
+
+use refusal::Refusal;
 
 // "Each task has a longest execution C, least distance between releases T, deadline D and slack S": 64-bit numbers, so that an oversized one
 // is refused and never cut. Of the 64 places the first `count` are the tasks; nothing is asked of the others.
+//
+// Four columns and not a list of tasks, as the C interface lays a table in words. That a table passed (`Checked`) is asked by the functions that need it and is
+// no part of this type: `check_table` answers on every table.
 #[derive(Clone, Copy)]
 pub struct Table {
     pub nodes: u64,
@@ -19,12 +24,41 @@ pub struct Table {
     pub slack: [u64; 64],
 }
 
-// 1, or 2 with the first task that breaks a rule.
-#[derive(Clone, Copy)]
-pub enum TableCheck {
-    Passes,
+impl Table {
+    // With its counts, and no task in its places.
+    #[tactic(auto, unfolding(laws::specs::Lists::pad))]
+    pub fn blank(nodes: u64, timeout: u64, count: usize) -> Table
+        ensures { result ≡ blank_table nodes timeout count }
+    {
+        Table {
+            nodes,
+            timeout,
+            count,
+            longest: [0; 64],
+            distance: [0; 64],
+            deadline: [0; 64],
+            slack: [0; 64],
+        }
+    }
+}
+
+// Why a table does not pass: 1, or 2 with the first task that breaks a rule.
+#[derive(Clone, Copy, Debug, PartialEq, Eq)]
+pub enum TableFault {
     OutOfRange,
-    Broken(usize),
+    RuleBroken(usize),
+}
+
+// Where no task is told, the number alone.
+impl From<TableFault> for Refusal {
+    ghost from_gives = { λ fault refusal. refusal ≡ refusal_of fault };
+
+    fn from(fault: TableFault) -> Refusal {
+        match fault {
+            TableFault::OutOfRange => Refusal::OutOfRange,
+            TableFault::RuleBroken(_) => Refusal::RuleBroken,
+        }
+    }
 }
 
 // "node or task count out of range, timeout 0"
@@ -53,29 +87,7 @@ fn in_order(c: u64, t: u64, d: u64, s: u64, lower: u64, timeout: u64) -> bool
 fn keeps_rules(c: u64, t: u64, d: u64, s: u64, lower: u64, timeout: u64) -> bool
     ensures { result ≡ keeps_numbers timeout lower (record { C = c; T = t; D = d; S = s }) }
 {
-    if small_numbers(c, t, d, s) {
-        return in_order(c, t, d, s, lower, timeout);
-    }
-    false
-}
-
-fn larger(a: u64, b: u64) -> u64
-    ensures { result ≡ max a b }
-{
-    if a < b {
-        return b;
-    }
-    a
-}
-
-// The task at i, where it breaks a rule, or else the first of those past it.
-fn first_of(keeps: bool, i: usize, past: usize) -> usize
-    ensures { result ≡ (if keeps then past else i) }
-{
-    if keeps {
-        return past;
-    }
-    i
+    small_numbers(c, t, d, s) && in_order(c, t, d, s, lower, timeout)
 }
 
 // The first task that breaks a rule, in one pass from the last task up, which carries "the largest C of any lower-priority task" along; `count` where none does.
@@ -92,22 +104,21 @@ fn first_broken<'a>(
 {
     let mut first = count;
     let mut top = 0;
-    let mut i = count;
-    while 0 < i {
-        i -= 1;
-        let keeps = keeps_rules(longest[i], distance[i], deadline[i], slack[i], top, timeout);
-        first = first_of(keeps, i, first);
-        top = larger(longest[i], top);
+    for i in (0..count).rev() {
+        if !keeps_rules(longest[i], distance[i], deadline[i], slack[i], top, timeout) {
+            first = i;
+        }
+        top = longest[i].max(top);
     }
     first
 }
 
 // "table 1, 2": the first task that breaks a rule is named.
-pub fn check_table(t: Table) -> TableCheck
+pub fn check_table(t: Table) -> Result<(), TableFault>
     ensures { answer_of (table_of t) result ≡ check (table_of t) }
 {
     if out_of_range(t.nodes, t.timeout, t.count as u64) {
-        return TableCheck::OutOfRange;
+        return Err(TableFault::OutOfRange);
     }
     let first = first_broken(
         &t.longest,
@@ -118,7 +129,7 @@ pub fn check_table(t: Table) -> TableCheck
         t.count,
     );
     if first < t.count {
-        return TableCheck::Broken(first);
+        return Err(TableFault::RuleBroken(first));
     }
-    TableCheck::Passes
+    Ok(())
 }

@@ -25,8 +25,11 @@ use Rattle.lines.specs.Lines.{Digits}
 use Rattle.lines.proofs.Classes.{verdict_digits}
 use Rattle.lines.proofs.Settled.{put_settled, put_buffer_settled}
 use Rattle.intake.proofs.Final.{Short}
-use Rattle.turn.specs.declared.TurnAnswer.{TurnAnswer}
-use Rattle.turn.specs.declared.TurnAnswer.TheVariants as answer
+use Rattle.std.specs.Prelude.{Result}
+use Rattle.refusal.specs.declared.Refusal.{Refusal}
+use Rattle.refusal.specs.Refusal.{answer_of}
+use Rattle.refusal.proofs.Same.{settled}
+use Rattle.refusal.proofs.Answers.{done_same, done_refused, refused_same}
 use Rattle.turn.specs.declared.Turn.{Turn}
 use Rattle.turn.specs.Turn.{Turned, closed_by, turn_of, turn_read}
 use Rattle.turn.specs.Gather.{Countable, Printable}
@@ -36,11 +39,6 @@ use Rattle.turn.proofs.Final.{turn_window}
 pub record SoundTurn (t : Table) (x : Turned) : Type 0 where
   pub common : Sound (table_of t) x.closed.common
   pub classes : Digits x.closed.reply.classes
-
-apart : {a : TurnAnswer} {n : ℕ} → a ≡ answer.Refused n → a ≡ answer.Closed → ⊥
-apart p q =
-    let z : ◌≡◌ {A = ℕ} 0 1 = cc in
-    omega arith
 
 abbrev Good : Table → Answer (Read Turned) → Type 0
 Good t (done x) = SoundTurn t x.value
@@ -65,47 +63,42 @@ module _ (t : Table) (c : Common) (k : Checked t) (g : Given t c) where
   unfolding turn_of
   good s = good_turn s (read_record 64 15 s)
 
-module _ (t : Table) (c : Common) (s : List ℕ) {r : Turn} (p : r ≡ turn_read c s (turn_of (table_of t) (common_of c) s)) where
-  pub next_turn_settled : {q : Turn} → q ≡ turn_read c s (turn_of (table_of t) (common_of c) s) → r ≡ q
-  next_turn_settled e = p ∙ sym e
+pub next_turn_settled : (t : Table) (c : Common) (s : List ℕ) {r q : Result Turn Refusal} → answer_of r ≡ turn_read s (turn_of (table_of t) (common_of c) s)
+    → answer_of q ≡ turn_read s (turn_of (table_of t) (common_of c) s) → r ≡ q
+next_turn_settled t c s p e = settled p e
 
-  pub turn_given : Checked t → Given t c → Given t r.common
+module _ (t : Table) (c : Common) (s : List ℕ) {x : Turn} (p : done x ≡ turn_read s (turn_of (table_of t) (common_of c) s)) where
+  pub turn_given : Checked t → Given t c → Given t x.common
   turn_given k g = by (turn_of (table_of t) (common_of c) s) p (good t c k g s)
     where
-      by : (a : Answer (Read Turned)) → r ≡ turn_read c s a → Good t a → Given t r.common
-      by (done x) e h = subst (λ (r : Turn). Given t r.common) (sym e) (given h.common)
-      by (refused n) e h = subst (λ (r : Turn). Given t r.common) (sym e) g
-      by (refused_by n i) e h = subst (λ (r : Turn). Given t r.common) (sym e) g
+      by : (a : Answer (Read Turned)) → done x ≡ turn_read s a → Good t a → Given t x.common
+      by (done y) e h = subst (λ (r : Turn). Given t r.common) (sym (done_same e)) (given h.common)
+      by (refused n) e h = absurd (done_refused e)
+      by (refused_by n i) e h = absurd (done_refused e)
 
-  pub turn_digits : Checked t → Given t c → r.answer ≡ answer.Closed → Digits r.classes
+  pub turn_digits : Checked t → Given t c → Digits x.classes
   turn_digits k g = by (turn_of (table_of t) (common_of c) s) p (good t c k g s)
     where
-      by : (a : Answer (Read Turned)) → r ≡ turn_read c s a → Good t a → r.answer ≡ answer.Closed → Digits r.classes
-      by (done x) e h w = subst (λ (r : Turn). Digits r.classes) (sym e) h.classes
-      by (refused n) e h w = absurd (apart (ap (λ (r : Turn). r.answer) e) w)
-      by (refused_by n i) e h w = absurd (apart (ap (λ (r : Turn). r.answer) e) w)
+      by : (a : Answer (Read Turned)) → done x ≡ turn_read s a → Good t a → Digits x.classes
+      by (done y) e h = subst (λ (r : Turn). Digits r.classes) (sym (done_same e)) h.classes
+      by (refused n) e h = absurd (done_refused e)
+      by (refused_by n i) e h = absurd (done_refused e)
 
-  pub turn_within : r.used ≤ length s
+  pub turn_within : x.used ≤ length s
   turn_within = by (turn_of (table_of t) (common_of c) s) p
     where
-      by : (a : Answer (Read Turned)) → r ≡ turn_read c s a → r.used ≤ length s
-      by (done x) e = omega (arith, ap (λ (r : Turn). r.used) e)
-      by (refused n) e = omega (arith, ap (λ (r : Turn). r.used) e)
-      by (refused_by n i) e = omega (arith, ap (λ (r : Turn). r.used) e)
+      by : (a : Answer (Read Turned)) → done x ≡ turn_read s a → x.used ≤ length s
+      by (done y) e = omega (arith, ap (λ (r : Turn). r.used) (done_same e))
+      by (refused n) e = absurd (done_refused e)
+      by (refused_by n i) e = absurd (done_refused e)
 
-  pub turn_short : r.answer ≡ answer.Refused 18 → length s < 1719
-  turn_short = by (turn_of (table_of t) (common_of c) s) p ((turn_window (table_of t) (common_of c)).short s)
-    where
-      by : (a : Answer (Read Turned)) → r ≡ turn_read c s a → Short 1719 s a → r.answer ≡ answer.Refused 18 → length s < 1719
-      by (done x) e h w = absurd (apart w (ap (λ (r : Turn). r.answer) e))
-      by (refused n) e h w =
-          let o : r.answer ≡ answer.Refused n = ap (λ (r : Turn). r.answer) e in
-          let m : n ≡ 18 = cc in
-          h m
-      by (refused_by n i) e h w =
-          let o : r.answer ≡ answer.Refused n = ap (λ (r : Turn). r.answer) e in
-          let m : n ≡ 18 = cc in
-          h m
+pub turn_short : (t : Table) (c : Common) (s : List ℕ) {n : ℕ} → refused n ≡ turn_read s (turn_of (table_of t) (common_of c) s) → n ≡ 18 → length s < 1719
+turn_short t c s {n} p w = by (turn_of (table_of t) (common_of c) s) p ((turn_window (table_of t) (common_of c)).short s)
+  where
+    by : (a : Answer (Read Turned)) → refused n ≡ turn_read s a → Short 1719 s a → length s < 1719
+    by (done x) e h = absurd (done_refused (sym e))
+    by (refused m) e h = h (sym (refused_same e) ∙ w)
+    by (refused_by m i) e h = h (sym (refused_same e) ∙ w)
 
 -- what was given back can be printed
 pub given_countable : {t : Table} {c : Common} → Given t c → Countable c
@@ -113,9 +106,9 @@ given_countable g =
     let n = numbers g in
     record { places = n.places; few = n.few; last = omega (arith, n.length_below) }
 
-pub turn_printable : (t : Table) (c : Common) (s : List ℕ) {r : Turn} → r ≡ turn_read c s (turn_of (table_of t) (common_of c) s) → Checked t → Given t c → r.answer ≡ answer.Closed → Printable t.nodes r
-turn_printable t c s p k g w =
-    record { nodes_few = (ranges k).nodes; digits = turn_digits t c s p k g w; counts = given_countable (turn_given t c s p k g) }
+pub turn_printable : (t : Table) (c : Common) (s : List ℕ) {x : Turn} → done x ≡ turn_read s (turn_of (table_of t) (common_of c) s) → Checked t → Given t c → Printable t.nodes x
+turn_printable t c s p k g =
+    record { nodes_few = (ranges k).nodes; digits = turn_digits t c s p k g; counts = given_countable (turn_given t c s p k g) }
 
 -- one law for the three lines that are gathered, since their contracts differ in the text alone
 module _ {output xs output' output'' : List ℕ} {at r q : ℕ} (e : PutWithin 8192 output at xs output' r) (d : PutWithin 8192 output at xs output'' q) where

@@ -20,6 +20,7 @@ fn put_front(output: &mut [u8], at: usize, line: &[u8], n: usize) -> usize
 }
 
 // "A refusal prints `refused N`".
+#[tactic(auto, using(crate::proofs::Gathering::may_put, crate::proofs::Gathering::gathered))]
 pub fn gather_refused(
     output: &mut [u8; 65536],
     line: &mut [u8; 8192],
@@ -34,7 +35,9 @@ pub fn gather_refused(
     put_front(output, at, line, n)
 }
 
-// "last, position:task of each job kept".
+// "last, position:task of each job kept". That its positions can be counted (`Countable`) is less than what a record that was given back has, so it is asked
+// here and is no part of the record.
+#[tactic(auto, using(crate::proofs::Gathering::may_put, crate::proofs::Gathering::gathered))]
 pub fn gather_order(output: &mut [u8; 65536], line: &mut [u8; 8192], at: usize, c: Common) -> usize
     requires { (at ≤ 57344) × Countable c }
     ensures put_within { PutWithin 8192 output.old at (printed (order_line (common_of c))) output.new result }
@@ -45,6 +48,7 @@ pub fn gather_order(output: &mut [u8; 65536], line: &mut [u8; 8192], at: usize, 
 }
 
 // "Fields: r, O, B, L, W after the round, the m classes".
+#[tactic(auto, using(crate::proofs::Gathering::may_put))]
 pub fn gather_round(
     output: &mut [u8; 65536],
     line: &mut [u8; 8192],

@@ -2,9 +2,8 @@
 // count from 0: place n is position B + n + 1.
 #![tactic(auto)]
 
-ghost use Rattle.std.specs.Prelude.{◌≡◌, ◌&&◌, [], ◌≤◌, min, get_or};
+ghost use Rattle.std.specs.Prelude.{◌≡◌, ◌&&◌, ◌≤◌, min, get_or};
 ghost use Rattle.laws.specs.Tests.{◌<?◌, ◌≤?◌};
-ghost use Rattle.laws.specs.Lists.{pad};
 ghost use Rattle.laws.specs.Search.{first_from};
 ghost use Rattle.common.specs.Raw.{Summable, Boundable};
 ghost use Rattle.walk.specs.Walk.{limits_of, walked_to, passes_limit, broken_at};
@@ -12,41 +11,12 @@ ghost use Rattle.walk.specs.Walk.{limits_of, walked_to, passes_limit, broken_at}
 // Later than any end: the limit where there is no task of higher priority.
 const NEVER: u64 = 9223372036854775808;
 
-// What the walk found: how many places it passed before one broke the bound, and the projections of B and of those places.
+// What the walk found: how many places it passed before one broke the bound, and the projections of B and of those places, in
+// memory of a fixed size.
 #[derive(Clone, Copy)]
 pub struct Walked {
     pub ends: [u64; 257],
     pub clear: usize,
-}
-
-fn smaller(a: usize, b: usize) -> usize
-    ensures { result ≡ min a b }
-{
-    if a < b {
-        return a;
-    }
-    b
-}
-
-fn sooner(a: u64, b: u64) -> u64
-    ensures { result ≡ min a b }
-{
-    if a < b {
-        return a;
-    }
-    b
-}
-
-fn no_ends() -> [u64; 257]
-    ensures { result ≡ pad 257 0 [] }
-{
-    [0; 257]
-}
-
-fn no_limits() -> [u64; 65]
-    ensures { result ≡ pad 65 0 [] }
-{
-    [0; 65]
 }
 
 // "projection(p) ≤ earliest release of i at t, plus S(i)", for every task i of higher priority: the latest end that a job of each task may have, in one pass
@@ -55,16 +25,13 @@ fn limits<'a>(earliest: &'a [u64; 64], slack: &'a [u64; 64], count: usize, t: u6
     requires { Boundable earliest.now slack.now count t }
     ensures { result ≡ limits_of earliest.now slack.now count t }
 {
-    let mut limits = no_limits();
+    let mut limits = [0; 65];
     let mut low = NEVER;
-    let mut i = 0;
-    while i < count {
+    for i in 0..count {
         limits[i] = low;
-        let e = common::earliest_at(earliest, i, t);
-        low = sooner(e + slack[i], low);
-        i += 1;
+        low = low.min(common::earliest_at(earliest, i, t) + slack[i]);
     }
-    limits[i] = low;
+    limits[count] = low;
     limits
 }
 
@@ -73,11 +40,7 @@ fn breaks(limits: &[u64; 65], count: usize, from: usize, k: usize, task: usize, 
     requires { count ≤ 64 }
     ensures { result ≡ ((from ≤? k) && (get_or limits.now (min task count) 0 <? end)) }
 {
-    if k < from {
-        return false;
-    }
-    let j = smaller(task, count);
-    limits[j] < end
+    from <= k && limits[task.min(count)] < end
 }
 
 // "W plus the C of every job", position by position, with the sum carried along, up to the first place from `from` on that breaks the bound.
@@ -95,23 +58,22 @@ fn walk_on<'a>(
     ensures { result ≡ walked_to longest.now tasks.now start
         (first_from (passes_limit longest.now tasks.now start limits.now count) from kept) }
 {
-    let mut ends = no_ends();
+    let mut ends = [0; 257];
     let mut end = start;
-    let mut k = 0;
-    while k < kept {
+    for k in 0..kept {
         ends[k] = end;
-        let i = common::task_at(tasks, k);
-        end = end + longest[i];
-        if breaks(limits, count, from, k, i, end) {
+        let task = common::task_at(tasks, k);
+        end += longest[task];
+        if breaks(limits, count, from, k, task, end) {
             return Walked { ends, clear: k };
         }
-        k += 1;
     }
-    ends[k] = end;
-    Walked { ends, clear: k }
+    ends[kept] = end;
+    Walked { ends, clear: kept }
 }
 
-// The walk at time t, by the table's C and S: "every such task counts" at each place from `from` on.
+// The walk at time t, by the table's C and S: "every such task counts" at each place from `from` on. Columns of the table and of the record are lent, so that
+// neither is copied, and what is asked of them (`Summable`, `Boundable`) is said of both together.
 pub fn walk_order<'a>(
     longest: &'a [u64; 64],
     slack: &'a [u64; 64],

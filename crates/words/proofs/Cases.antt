@@ -5,8 +5,12 @@ use Prim.Native.Nat.{ℕ}
 use Rattle.laws.specs.Lists.{pad, rows}
 use Rattle.rules.specs.All.{all}
 use Rattle.table.specs.declared.Table.{Table}
-use Rattle.words.specs.declared.tables.TableIn.{TableIn}
-use Rattle.words.specs.Table.{table_words, table_at, no_table, told_table}
+use Rattle.std.specs.Prelude.{Result, Ok, Err}
+use Rattle.refusal.specs.declared.Refusal.{Refusal}
+use Rattle.refusal.specs.declared.Refusal.TheVariants.{WrongLength, WrongTable}
+use Rattle.refusal.specs.Refusal.{answer_of}
+use Rattle.refusal.proofs.Same.{answer_same}
+use Rattle.words.specs.Table.{table_words, table_at}
 
 -- "tasks (C, T, D, S): 0 (10, 100, 100, 40), 1 (20, 200, 200, 50), 2 (30, 400, 400, 40)"; a place past them holds 7, of which nothing is asked
 abbrev C : List ℕ
@@ -28,35 +32,32 @@ words nodes timeout count = nodes ∷ timeout ∷ count ∷ (C ++ (T ++ (D ++ S)
 abbrev canal : Table
 canal = record { nodes = 3; timeout = 2; count = 3; longest = C; distance = T; deadline = D; slack = S }
 
-abbrev refusal : ℕ → TableIn
-refusal n = record { refusal = n; table = no_table }
-
 -- "m 3, timeout 2": accepted, with every word in its place
-pub canal_read : {r : TableIn} → r ≡ told_table (table_at (words 3 2 3)) → r ≡ record { refusal = 0; table = canal }
+pub canal_read : {r : Result Table Refusal} → answer_of r ≡ table_at (words 3 2 3) → r ≡ Ok canal
 unfolding all rows table_at
-canal_read e = e ∙ refl
+canal_read e = answer_same (e ∙ refl)
 
 pub canal_written : {left : List ℕ} → left ≡ table_words canal → left ≡ words 3 2 3
 canal_written e = e ∙ refl
 
 -- a word more, and none at all
-pub one_more : {r : TableIn} → r ≡ told_table (table_at (words 3 2 3 ++ (0 ∷ []))) → r ≡ refusal 100
+pub one_more : {r : Result Table Refusal} → answer_of r ≡ table_at (words 3 2 3 ++ (0 ∷ [])) → r ≡ Err WrongLength
 unfolding all rows table_at
-one_more e = e ∙ refl
+one_more e = answer_same (e ∙ refl)
 
-pub no_words : {r : TableIn} → r ≡ told_table (table_at []) → r ≡ refusal 100
+pub no_words : {r : Result Table Refusal} → answer_of r ≡ table_at [] → r ≡ Err WrongLength
 unfolding all rows table_at
-no_words e = e ∙ refl
+no_words e = answer_same (e ∙ refl)
 
 -- what `check` refuses 1 (65 tasks) and 2 (a timeout above the smallest C; a fourth task of 7, 0, 0, 0) is 101 here
-pub count_65 : {r : TableIn} → r ≡ told_table (table_at (words 3 2 65)) → r ≡ refusal 101
+pub count_65 : {r : Result Table Refusal} → answer_of r ≡ table_at (words 3 2 65) → r ≡ Err WrongTable
 unfolding all rows table_at
-count_65 e = e ∙ refl
+count_65 e = answer_same (e ∙ refl)
 
-pub long_timeout : {r : TableIn} → r ≡ told_table (table_at (words 3 11 3)) → r ≡ refusal 101
+pub long_timeout : {r : Result Table Refusal} → answer_of r ≡ table_at (words 3 11 3) → r ≡ Err WrongTable
 unfolding all rows table_at
-long_timeout e = e ∙ refl
+long_timeout e = answer_same (e ∙ refl)
 
-pub fourth_task : {r : TableIn} → r ≡ told_table (table_at (words 3 2 4)) → r ≡ refusal 101
+pub fourth_task : {r : Result Table Refusal} → answer_of r ≡ table_at (words 3 2 4) → r ≡ Err WrongTable
 unfolding all rows table_at
-fourth_task e = e ∙ refl
+fourth_task e = answer_same (e ∙ refl)

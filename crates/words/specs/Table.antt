@@ -1,12 +1,10 @@
 -- The words of a task table, and the table that they are.
-use Rattle.std.specs.Prelude.{Bool, true, false, not, List, [], ◌∷◌, ◌++◌, ℕ, length, take, drop, get_or}
+use Rattle.std.specs.Prelude.{Bool, true, false, not, List, ◌∷◌, ◌++◌, ℕ, length, take, drop, get_or}
 use Rattle.laws.specs.Tests.{◌=?◌}
-use Rattle.laws.specs.Lists.{pad}
 use Rattle.rules.specs.Answer.{Answer, done, refused, refused_by, refuse◌if◌else◌}
 use Rattle.rules.specs.Table as rules
 use Rattle.table.specs.declared.Table.{Table}
 use Rattle.table.specs.Table.{table_of}
-use Rattle.words.specs.declared.tables.TableIn.{TableIn}
 
 -- "number of nodes, timeout, number of tasks, then 64 words each of C, T, D and S"
 abbrev pub table_words : Table → List ℕ
@@ -36,21 +34,3 @@ table_at ws =
     refuse 100 if not (length ws =? 259)
     else refuse 101 if not (passes (rules.check (table_of (table_in ws))))
     else done (table_in ws)
-
--- The table beside a refusal: no task, and zeros.
-abbrev pub no_table : Table
-no_table = record {
-  nodes = 0;
-  timeout = 0;
-  count = 0;
-  longest = pad 64 0 [];
-  distance = pad 64 0 [];
-  deadline = pad 64 0 [];
-  slack = pad 64 0 [];
-}
-
--- "Every reply begins with `refusal`: 0 where the call was accepted, else the number."
-abbrev pub told_table : Answer Table → TableIn
-told_table (done t) = record { refusal = 0; table = t }
-told_table (refused n) = record { refusal = n; table = no_table }
-told_table (refused_by n i) = record { refusal = n; table = no_table }

@@ -1,39 +1,12 @@
 // The words of a task table: read, with the refusals of the doors themselves, and written.
 ghost use Rattle.std.specs.Prelude.{◌≡◌, ◌++◌, ◌+◌, ◌≤◌, length};
 ghost use Rattle.std.proofs.lemmas.List.Edits.{sets};
-ghost use Rattle.rules.specs.Answer.{refused};
-ghost use Rattle.words.specs.Table.{table_words, table_in, table_at, no_table, told_table};
+ghost use Rattle.refusal.specs.Refusal.{answer_of};
+ghost use Rattle.words.specs.Table.{table_words, table_in, table_at};
 
 use crate::block::{block, put_block};
-use table::{Table, TableCheck, check_table};
-
-// 0 and the table, or the number of a refusal and a table with no task.
-#[derive(Clone, Copy)]
-pub struct TableIn {
-    pub refusal: u64,
-    pub table: Table,
-}
-
-fn no_table() -> Table
-    ensures { result ≡ no_table }
-{
-    Table {
-        nodes: 0,
-        timeout: 0,
-        count: 0,
-        longest: [0; 64],
-        distance: [0; 64],
-        deadline: [0; 64],
-        slack: [0; 64],
-    }
-}
-
-fn refused_table(n: u64) -> TableIn
-    ensures { result ≡ told_table (refused n) }
-{
-    let table = no_table();
-    TableIn { refusal: n, table }
-}
+use refusal::Refusal;
+use table::{Table, check_table};
 
 // Word by word; nothing is asked of the numbers yet. A count is 64 bits in the word and in the table, so that none is cut.
 pub fn table_of(words: &[u64]) -> Table
@@ -55,18 +28,17 @@ pub fn table_of(words: &[u64]) -> Table
     }
 }
 
-// The table that stands in words: 100, then 101.
-pub fn table_in(words: &[u64]) -> TableIn
-    ensures { result ≡ told_table (table_at words.now) }
+// The table that stands in words: 100, then 101, whatever the fault of the table.
+pub fn table_in(words: &[u64]) -> Result<Table, Refusal>
+    ensures { answer_of result ≡ table_at words.now }
 {
     if words.len() != 259 {
-        return refused_table(100);
+        return Err(Refusal::WrongLength);
     }
     let table = table_of(words);
     match check_table(table) {
-        TableCheck::Passes => TableIn { refusal: 0, table },
-        TableCheck::OutOfRange => refused_table(101),
-        TableCheck::Broken(_) => refused_table(101),
+        Ok(()) => Ok(table),
+        Err(_) => Err(Refusal::WrongTable),
     }
 }
 

@@ -1,12 +1,11 @@
 -- `judge::judge_round` meets its contract: what the passes give is what the rules give. Assumes nothing.
 use Rattle.laws.proofs.Lists.{length_of_map}
-use Rattle.judge.proofs.Lent.{judgeable}
 use Rattle.judge.proofs.Rounds.{few, judged_round}
 use borrow.Author.Rules.{rules}
 use Rattle.judge.proofs.judge_round.Goals as goal
 
 pub judge_entries-all-requires : goal.judge_entries-all-requires
-judge_entries-all-requires c = record { judgeable = search judgeable; n_bound = search (rules, few) }
+judge_entries-all-requires c = search (rules, few)
 
 pub conclude-requires : goal.conclude-requires
 conclude-requires c = search (rules, few)

@@ -1,48 +1,33 @@
--- No mark above 1 among the entries so far.
-use mathlib.Core.Path.{◌≡◌, refl}
-use mathlib.Core.Bool.{true, false}
-use mathlib.Core.Option.{some}
-use mathlib.Core.List.{List}
-use Prim.Native.Nat.{ℕ, ◌+◌, ◌*◌, ◌/◌, ◌≤◌, ◌<◌}
-use native.Mathlib.Omega.{arith}
-use borrow.Author.Tests.{lt-ltb, le-ltb}
-use lib.ListN.{length, get_or}
+-- What `any` answers is the test.
+use Rattle.std.proofs.Common.{rules, tests, refl, ap, ℕ, Bool, ◌≡◌, ◌<◌, ◌/◌, length, get_or, ◌∙◌, arith}
+use Rattle.std.specs.List.{list_any, range_with_len}
+use Rattle.std.proofs.lemmas.List.FromFn.{length-range_with_len, get_or-range_with_len}
+use Rattle.std.proofs.lemmas.List.Recursion.{or_at, or_from_places}
+use Rattle.std.proofs.lemmas.Iterator.{YieldsList-from_range}
+use Rattle.std.proofs.lemmas.Iterator.Search.{any_from_yields_List}
+use mathlib.Core.Option.{Option, none, some}
+use Rattle.laws.specs.Tests.{found}
 use Rattle.laws.specs.Search.{lowest}
-use Rattle.laws.proofs.Search.{lowest_none, lowest_more, lowest_found}
+use Rattle.laws.proofs.Search.{Says, lowest_says}
 use Rattle.lists.specs.Lists.{above_one, wrong_mark}
-use Rattle.lists.proofs.wrong_mark.Invariants.{Inv}
 use Rattle.lists.proofs.wrong_mark.Goals as goal
 
-inv_start : (ws : List ℕ) → Inv ws (length ws / 4) 0
-inv_start ws = record { many = refl; to = omega arith; none_yet = lowest_none (above_one ws) }
+-- some number below n passes a test where there is a lowest that does
+any_found : (f : ℕ → Bool) (n : ℕ) → list_any f (range_with_len 0 n) ≡ found (lowest f n)
+any_found f n = by (lowest f n) (lowest_says f n)
+  where
+    here : (i : ℕ) → i < n → f (get_or (range_with_len 0 n) i 0) ≡ f i
+    here i h =
+        let e : get_or (range_with_len 0 n) i 0 ≡ i = omega (arith, get_or-range_with_len 0 n i 0 h) in
+        ap f e
 
-module _ {ws : List ℕ} {count i : ℕ} (v : Inv ws count i) where
-  inv_inside : i < count → 4 * i < length ws
-  inv_inside h = omega (arith, v.many)
-
-  inv_found : i < count → 1 < get_or ws (4 * i) 0 → true ≡ wrong_mark ws
-  unfolding wrong_mark
-  inv_found h m =
-      let e : lowest (above_one ws) (length ws / 4) ≡ some i = lowest_found (above_one ws) i v.none_yet (lt-ltb 1 (get_or ws (4 * i) 0) m) (length ws / 4) (omega (arith, v.many)) in
-      rw e
-
-  inv_next : i < count → get_or ws (4 * i) 0 ≤ 1 → Inv ws count (i + 1)
-  inv_next h m = record { many = v.many; to = omega arith; none_yet = lowest_more (above_one ws) i v.none_yet (le-ltb 1 (get_or ws (4 * i) 0) m) }
-
-  inv_done : count ≤ i → false ≡ wrong_mark ws
-  unfolding wrong_mark
-  inv_done h =
-      let e : length ws / 4 ≡ i = omega (arith, v.many, v.to) in
-      rw (e, v.none_yet)
-
-pub loop-i-init : goal.loop-i-init
-loop-i-init c = inv_start _
-
-pub returns-then-words-i-gt1 : goal.returns-then-words-i-gt1
-returns-then-words-i-gt1 c = search inv_found
-
-pub loop-i-preserved : goal.loop-i-preserved
-loop-i-preserved c = search inv_next
+    by : (o : Option ℕ) → Says f n o → list_any f (range_with_len 0 n) ≡ found o
+    by none s = or_from_places (list_any f) f refl (λ x xs. refl) (range_with_len 0 n) 0 (λ i l. let h : i < n = omega (arith, length-range_with_len 0 n) in here i h ∙ s i h)
+    by (some i) s = or_at (list_any f) f refl (λ x xs. refl) (range_with_len 0 n) i 0 (omega (arith, length-range_with_len 0 n, s.inside)) (here i s.inside ∙ s.passes)
 
 pub returns : goal.returns
-returns c = search inv_done
+unfolding wrong_mark
+returns c =
+    let ws = c.args.words.now in
+    any_from_yields_List (above_one ws) _ _ _ c.any.ensures.ran (YieldsList-from_range 0 (length ws / 4) (length ws / 4) refl (search rules)) (λ x b q k. search (rules, tests))
+    ∙ any_found (above_one ws) (length ws / 4)

@@ -1,68 +1,61 @@
--- The store's loop: what is asked is what the stores of the groups of `rest`, from `at` on, still make of the bytes.
+-- The store's loop: what is asked is what the stores of the groups of `rest`, from `at` on, still make of the bytes, and `last` is the place of the
+-- last group.
 use mathlib.Core.Path.{◌≡◌, refl, sym, ap, ◌∙◌}
+use mathlib.Core.Logic.{⊎_elim}
 use mathlib.Core.List.{List, ◌∷◌}
 use Prim.Native.Nat.{ℕ, ◌+◌, ◌-◌, ◌/◌, ◌%◌, ◌^◌, ◌≤◌, ◌<◌}
 use native.Mathlib.Omega.{arith}
 use native.Mathlib.Numerals.{add-one}
-use lib.ListN.{length, set, length-set}
+use lib.ListN.{length, set}
 use lib.Seq.{sets}
 use Rattle.laws.proofs.Digits.{more_left, next_fits}
+use Rattle.laws.proofs.Tests.{lt_or_ge}
 use Rattle.rules.specs.Numbers.{groups, number_bytes}
-use Rattle.rules.proofs.Sizes.{one_group, more_groups}
+use Rattle.rules.proofs.Sizes.{one_group, more_groups, groups_some}
 use Rattle.number.proofs.put_number.Invariants.{Inv}
 use Rattle.number.proofs.put_number.Goals as goal
 
-inv_start : {bytes : List ℕ} {from value : ℕ} → value < 2 ^ 63 → from + length (number_bytes value) ≤ length bytes → Inv bytes from value bytes value 8 from
-inv_start h r = record { small = h; long = refl; room = r; size = refl; to_do = refl }
+inv_start : (bytes : List ℕ) (from value n : ℕ) → value < 2 ^ 63 → n ≡ length (number_bytes value) → Inv bytes from value bytes value (8 + from - from) (from + n - 1) from
+inv_start bytes from value n h e =
+    let l : 8 + from - from ≡ 8 = omega arith in
+    rw l (record { small = h; size = omega (arith, groups_some 8 value); to_do = refl })
 
-module _ {bytes₀ : List ℕ} {from value : ℕ} {bytes : List ℕ} {rest left at : ℕ} (v : Inv bytes₀ from value bytes rest left at) where
-  inv_left : 128 ≤ rest → 0 < left
-  inv_left h = more_left left h v.small
+module _ {bytes₀ : List ℕ} {from value : ℕ} {bytes : List ℕ} {rest left last at : ℕ} (v : Inv bytes₀ from value bytes rest left last at) where
+  inv_more : {next : ℕ} → at < last → next ≡ left - 1 → Inv bytes₀ from value (set bytes at (128 + rest % 128)) (rest / 128) next last (at + 1)
+  inv_more h e =
+      let m : 128 ≤ rest = ⊎_elim (λ s. absurd (omega (arith, v.size, ap length (one_group left rest s)))) (λ g. g) (lt_or_ge rest 128) in
+      let l : 0 < left = more_left left m v.small in
+      let g : groups left rest ≡ (128 + rest % 128) ∷ groups (left - 1) (rest / 128) = more_groups left rest m l in
+      rw e (record { small = next_fits left l v.small; size = omega (arith, v.size, ap length g); to_do = v.to_do ∙ rw (g, add-one at) })
 
-  inv_at : 128 ≤ rest → at < length bytes
-  inv_at h = omega (arith, v.room, ap length (more_groups left rest h (inv_left h)))
+  -- one group is left
+  inv_one : last ≤ at → rest < 128
+  inv_one h =
+      ⊎_elim
+      (λ s. s)
+      (λ m. absurd (omega (arith, v.size, ap length (more_groups left rest m (more_left left m v.small)), groups_some (left - 1) (rest / 128))))
+      (lt_or_ge rest 128)
 
-  inv_at_last : rest < 128 → at < length bytes
-  inv_at_last h = omega (arith, v.room, ap length (one_group left rest h))
+  inv_done : last ≤ at → set bytes last rest ≡ sets bytes₀ from (number_bytes value)
+  inv_done h =
+      let o = one_group left rest (inv_one h) in
+      let e : at ≡ last = omega (arith, v.size, ap length o) in
+      sym (v.to_do ∙ rw (o, e))
 
-  inv_more : 128 ≤ rest → Inv bytes₀ from value (set bytes at (128 + rest % 128)) (rest / 128) (left - 1) (at + 1)
-  inv_more h =
-      let l : 0 < left = inv_left h in
-      let g : groups left rest ≡ (128 + rest % 128) ∷ groups (left - 1) (rest / 128) = more_groups left rest h l in
-      record {
-        small = next_fits left l v.small;
-        long = length-set bytes at _ ∙ v.long;
-        room = rw length-set (omega (arith, v.room, ap length g));
-        size = omega (arith, v.size, ap length g);
-        to_do = v.to_do ∙ rw (g, add-one at);
-      }
+pub overflow_sub-last : goal.overflow_sub-last
+overflow_sub-last c = omega (arith, groups_some 8 c.args.value, c.number_size.ensures.0)
 
-  inv_done : rest < 128 → (at + 1 ≡ from + length (number_bytes value)) × (set bytes at rest ≡ sets bytes₀ from (number_bytes value))
-  inv_done h = (omega (arith, v.size, ap length (one_group left rest h)), sym (v.to_do ∙ rw (one_group left rest h)))
+pub loop-at-init : goal.loop-at-init
+loop-at-init c = inv_start _ _ _ _ c.requires.0 c.number_size.ensures.0
 
-pub loop-rest-init : goal.loop-rest-init
-loop-rest-init c = search inv_start
+pub loop-at-preserved : goal.loop-at-preserved
+loop-at-preserved c = inv_more c.loop-at.invariant c.loop-at-test.true (omega arith)
 
-pub bounds-bytes-at : goal.bounds-bytes-at
-bounds-bytes-at c = search inv_at
+pub overflow_cast-bytes-2 : goal.overflow_cast-bytes-2
+overflow_cast-bytes-2 c = omega (arith, inv_one c.loop-at.invariant c.loop-at-test.false)
 
-pub overflow_sub-left : goal.overflow_sub-left
-overflow_sub-left c = search inv_left
-
-pub overflow_add-at : goal.overflow_add-at
-overflow_add-at c = omega (arith, inv_at c.loop-rest.invariant c.loop-rest-test.true)
-
-pub loop-rest-smaller : goal.loop-rest-smaller
-loop-rest-smaller c = omega (arith, inv_left c.loop-rest.invariant c.loop-rest-test.true)
-
-pub loop-rest-preserved : goal.loop-rest-preserved
-loop-rest-preserved c = search inv_more
-
-pub bounds-bytes-at-2 : goal.bounds-bytes-at-2
-bounds-bytes-at-2 c = search inv_at_last
-
-pub shape_of-bytes : goal.shape_of-bytes
-shape_of-bytes c = simp length-set c.loop-rest.invariant.long
+pub bounds-bytes-last : goal.bounds-bytes-last
+bounds-bytes-last c = omega (arith, groups_some 8 c.args.value, c.number_size.ensures.0, c.requires.1, c.loop-at.auto.bytes)
 
 pub returns : goal.returns
-returns c = inv_done c.loop-rest.invariant c.loop-rest-test.false
+returns c = (omega (arith, groups_some 8 c.args.value, c.number_size.ensures.0), inv_done c.loop-at.invariant c.loop-at-test.false)

@@ -1,15 +1,16 @@
--- `passes::new_offset` meets its contract. The invariant: the fold over the entries below `i` is left. Assumes nothing.
-use native.Mathlib.Omega.{arith}
-use Rattle.laws.proofs.Folds.{fold_start, fold_next, fold_end}
-use Rattle.laws.proofs.Lists.{length_of_map}
-use Rattle.passes.specs.Classed.{front_step}
+-- `passes::new_offset` meets its contract: the chain takes the largest from the first entry on. Assumes nothing.
+use mathlib.Core.Path.{◌≡◌, ◌∙◌}
+use mathlib.Core.List.{map}
+use Prim.Native.Nat.{max}
+use lib.ListN.{take}
+use borrow.Author.Rules.{rules}
+use Rattle.std.specs.List.{fold}
+use Rattle.std.proofs.iter.runs.Made.{chains}
+use Rattle.passes.specs.declared.Classed.{Classed}
+use Rattle.passes.proofs.Chains.{max_each}
 use Rattle.passes.proofs.new_offset.Goals as goal
 
-pub loop-i-init : goal.loop-i-init
-loop-i-init c = fold_start front_step 15 (search length_of_map) (omega arith)
-
-pub loop-i-preserved : goal.loop-i-preserved
-loop-i-preserved c = search fold_next
-
 pub returns : goal.returns
-returns c = search fold_end
+returns c =
+    let e : c.fold.result ≡ fold max c.args.offset (map (λ (x : Classed). x.front) (take c.args.n c.args.all)) = search (rules, chains) in
+    e ∙ max_each (λ (x : Classed). x.front) c.args.offset (take c.args.n c.args.all)

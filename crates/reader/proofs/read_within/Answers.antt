@@ -1,78 +1,52 @@
--- A record into so many places, a lemma for each way out.
-use mathlib.Core.Path.{◌≡◌, ◌∙◌}
-use mathlib.Core.List.{List}
-use Prim.Native.Nat.{ℕ, ◌-◌, ◌≤◌}
-use native.Mathlib.Omega.{arith}
-use lib.ListN.{length, drop, length-drop}
-use Rattle.rules.specs.Judge as rules
-use Rattle.rules.specs.Numbers.{number}
-use Rattle.rules.specs.Written.{read_record}
-use Rattle.rules.proofs.RoundTrips.{record_round_trips}
-use Rattle.number.specs.declared.NumberRead.{NumberRead}
-use Rattle.number.specs.declared.NumberRead.TheVariants as number
-use Rattle.reader.specs.declared.Ended.TheVariants as ended
-use Rattle.reader.specs.declared.RoundRead.{RoundRead}
-use Rattle.reader.specs.declared.RecordAnswer.TheVariants as answer
-use Rattle.reader.specs.declared.RecordRead.{RecordRead}
-use Rattle.number.specs.Numbers.{number_read}
-use Rattle.reader.specs.Records.{lists, some_round, round_read, some_record, no_record, within_read}
-use Rattle.number.proofs.Told.{Done}
-use Rattle.number.proofs.Two.{one_bad, one_done}
-use Rattle.reader.proofs.Endings.{Held, ended_next, ended_stop}
-use Rattle.reader.proofs.Elements.{round_end, lists_take}
-use Rattle.reader.proofs.Parts.{record_parts}
+-- A record, a line for each way out.
+use mathlib.Core.Path.{sym, ap, ◌∙◌}
+use Prim.Native.Nat.{◌-◌}
+use Rattle.rules.specs.Answer.{done}
+use Rattle.round.specs.declared.Round.{Round}
+use Rattle.refusal.proofs.Same.{passed_on}
+use Rattle.reader.proofs.Within.{releases_bad, releases_has, entries_bad, entries_has, no_time, no_releases, no_entries, forward, read_so}
 use Rattle.reader.proofs.read_within.Goals as goal
 
-module _ (j k : ℕ) (s : List ℕ) (from : ℕ) {q : rules.Round} {next : ℕ} (d : Done s (read_record j k (drop from s)) q next) where
-  past : from ≤ next
-  past = omega (arith, (record_round_trips.alone j k).some_byte (drop from s) d.is, d.on, length-drop from s, length-drop next s)
-
-  done_so : some_record q (next - from) ≡ within_read j k (drop from s)
-  done_so =
-      let u : length (drop from s) - length (drop next s) ≡ next - from = omega (arith, past, d.on, length-drop from s, length-drop next s) in
-      rw (d.is, u)
-
-module _ (s : List ℕ) (from j k : ℕ) {a : NumberRead} (p : a ≡ number_read s (number (drop from s))) where
-  no_time : {n : ℕ} {r : RecordRead} → a ≡ number.Refused n → r ≡ no_record n → r ≡ within_read j k (drop from s)
-  no_time g q = q ∙ rw (record_parts j k (drop from s), one_bad s from p g)
-
-  module _ {time at : ℕ} (g : a ≡ number.Value time at) {x : RoundRead} (o : x ≡ round_read s (lists j k time (drop at s))) where
-    parts : read_record j k (drop from s) ≡ lists j k time (drop at s)
-    parts = record_parts j k (drop from s) ∙ rw (one_done s from p g).is
-
-    no_lists : {n : ℕ} {r : RecordRead} → x.ended ≡ ended.Refused n → r ≡ no_record n → r ≡ within_read j k (drop from s)
-    no_lists h q = q ∙ rw (parts ∙ ended_stop round_end (lists_take j k time) s at o h)
-
-    module _ {next : ℕ} (h : x.ended ≡ ended.Next next) where
-      held : Held some_round s (lists j k time (drop at s)) x next
-      held = ended_next round_end (lists_take j k time) s at o h
-
-      whole : Done s (read_record j k (drop from s)) held.what next
-      whole = record { is = parts ∙ held.was.is; on = held.was.on }
-
-      forward : from ≤ next
-      forward = past j k s from whole
-
-      all_read : record { answer = answer.Read; used = next - from; round = x.round } ≡ within_read j k (drop from s)
-      all_read = (λ i. record { answer = answer.Read; used = next - from; round = (held.holds i).round }) ∙ done_so j k s from whole
-
-pub overflow_sub-used : goal.overflow_sub-used
-overflow_sub-used c =
+pub returns-in_err-time : goal.returns-in_err-time
+returns-in_err-time c =
     let a = c.args in
-    forward a.bytes.now a.from a.releases a.entries c.read_number.ensures c.in-Value.is
-    c.read_lists-read.ensures c.in-Next.is
+    passed_on _ _ c.from_residual.ensures.1 ∙ rw (no_time a.bytes.now a.from a.releases a.entries c.in_err-time.ensures)
 
-pub returns-in-Refused : goal.returns-in-Refused
-returns-in-Refused c =
+pub returns-in_err-listed : goal.returns-in_err-listed
+returns-in_err-listed c =
     let a = c.args in
-    search (no_time a.bytes.now a.from a.releases a.entries)
+    let e = releases_bad a.bytes.now c.in_ok-time.at a.releases c.blank-q.ensures c.in_err-listed.ensures.answer in
+    passed_on _ _ c.from_residual-in_err-listed.ensures.1 ∙ rw (no_releases a.bytes.now a.from a.releases a.entries c.in_ok-time.ensures e)
 
-pub returns-in-Refused-ended : goal.returns-in-Refused-ended
-returns-in-Refused-ended c =
+pub returns-in_err-entered : goal.returns-in_err-entered
+returns-in_err-entered c =
     let a = c.args in
-    search (no_lists a.bytes.now a.from a.releases a.entries)
+    let l = c.in_ok-listed.ensures in
+    let xs = releases_has a.bytes.now c.in_ok-time.at a.releases c.blank-q.ensures l.answer l.list_after in
+    let e = entries_bad a.bytes.now c.in_ok-listed.middle a.entries c.blank-q.ensures c.in_err-entered.ensures.answer in
+    passed_on _ _ c.from_residual-in_err-entered.ensures.1 ∙ rw (no_entries a.bytes.now a.from a.releases a.entries c.in_ok-time.ensures xs.was e)
 
-pub returns-in-Next : goal.returns-in-Next
-returns-in-Next c =
+pub overflow_sub-result : goal.overflow_sub-result
+overflow_sub-result c =
     let a = c.args in
-    search (all_read a.bytes.now a.from a.releases a.entries)
+    let l = c.in_ok-listed.ensures in
+    let n = c.in_ok-entered.ensures in
+    let xs = releases_has a.bytes.now c.in_ok-time.at a.releases c.blank-q.ensures l.answer l.list_after in
+    let es = entries_has a.bytes.now c.in_ok-listed.middle a.entries c.blank-q.ensures n.answer n.list_after in
+    forward a.bytes.now a.from a.releases a.entries c.in_ok-time.ensures xs.was es.was
+
+pub returns : goal.returns
+returns c =
+    let a = c.args in
+    let l = c.in_ok-listed.ensures in
+    let n = c.in_ok-entered.ensures in
+    let xs = releases_has a.bytes.now c.in_ok-time.at a.releases c.blank-q.ensures l.answer l.list_after in
+    let es = entries_has a.bytes.now c.in_ok-listed.middle a.entries c.blank-q.ensures n.answer n.list_after in
+    ap (λ (q : Round). done (q, c.in_ok-entered.next - a.from)) (λ i. record {
+      time = c.in_ok-time.time;
+      listed = sym xs.many_is i;
+      releases = xs.holds i;
+      entered = sym es.many_is i;
+      entries = es.holds i;
+    })
+    ∙ read_so a.bytes.now a.from a.releases a.entries c.in_ok-time.ensures xs.was es.was

@@ -1,9 +1,15 @@
--- The table and the rounds: what is asked of the window at each call.
-use Rattle.session.proofs.Tables.{rounds_asks, more_asks}
+-- The table and the rounds: what is asked at each call.
+use native.Mathlib.Omega.{arith}
+use Rattle.std.specs.Prelude.{take}
+use Rattle.intake.proofs.Settled.{table_checked}
+use Rattle.session.proofs.Tables.{few}
 use Rattle.session.proofs.begin.Goals as goal
 
 pub rounds-requires : goal.rounds-requires
-rounds-requires g c = rounds_asks c.args.input.now c.args.to c.requires c.read_table-read.ensures c.in-Read.is
+rounds-requires g c = table_checked (take c.args.w.to c.args.input.now) c.in-Ok.ensures
 
 pub read_more-requires : goal.read_more-requires
-read_more-requires g c = more_asks c.args.input.now c.args.to c.requires c.read_table-read.ensures c.in-Refused.is c.if-number-eq18.true
+read_more-requires g c =
+    let w = c.args.w in
+    let h = few c.args.input.now w.to (omega (arith, w.held.1, c.fits-input)) c.in-Err-BytesEnd.ensures c.in-Err-BytesEnd.field-0-is in
+    (omega arith, w.held.1, omega (arith, h))

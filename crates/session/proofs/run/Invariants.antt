@@ -1,9 +1,6 @@
--- The table comes in one or more readings: the bytes so far lie in the window, and the turns that are left fall.
-use Rattle.std.proofs.Common.{◌≤◌, length}
+-- The window's own fact, which a loop's variable has no more: `l.w.0` is where its bytes begin, `l.w.1.0` where they end.
+use Rattle.std.proofs.Common.{◌≤◌}
 use Rattle.session.proofs.run.Given as goal
 
-abbrev pub invariant-loop-turns : goal.invariant-loop-turns
-invariant-loop-turns g l = l.to ≤ length l.input
-
-abbrev pub decreases-loop-turns : goal.decreases-loop-turns
-decreases-loop-turns g l = l.turns
+abbrev pub invariant-loop : goal.invariant-loop
+invariant-loop g l = (l.w.0 ≤ l.w.1.0) × (l.w.1.0 ≤ 65536)

@@ -8,14 +8,15 @@ use Rattle.laws.proofs.Tests.{none_of}
 use Rattle.laws.proofs.First.{first_same, first_lowest, first_none}
 use Rattle.rules.specs.Table.{out_of_range, check}
 use Rattle.table.specs.declared.Table.{Table}
-use Rattle.table.specs.declared.TableCheck.TheVariants.{Passes, OutOfRange, Broken}
+use Rattle.std.specs.Prelude.{Ok, Err}
+use Rattle.table.specs.declared.TableFault.TheVariants.{OutOfRange, RuleBroken}
 use Rattle.table.specs.Table.{table_of}
 use Rattle.table.specs.Check.{answer_of, first_breaking}
 use Rattle.table.proofs.Rules.{breaks_rule, keeps_is, out_refused, rule_refused, all_kept}
 use Rattle.table.proofs.check_table.Goals as goal
 
 module _ (t : Table) {b : Bool} (e : b ≡ out_of_range t.nodes t.timeout t.count) where
-  refused_out : b ≡ true → answer_of (table_of t) OutOfRange ≡ check (table_of t)
+  refused_out : b ≡ true → answer_of (table_of t) (Err OutOfRange) ≡ check (table_of t)
   refused_out h = out_refused t (sym e ∙ h)
 
   module _ (h : b ≡ false) where
@@ -28,10 +29,10 @@ module _ (t : Table) {b : Bool} (e : b ≡ out_of_range t.nodes t.timeout t.coun
       unfolding first_breaking breaks_rule
       found_is = p ∙ first_same _ (breaks_rule t) 0 t.count (λ i a l. ap not (sym (keeps_is t i l)))
 
-      broken : first < t.count → answer_of (table_of t) (Broken first) ≡ check (table_of t)
+      broken : first < t.count → answer_of (table_of t) (Err (RuleBroken first)) ≡ check (table_of t)
       broken l = rule_refused t (sym e ∙ h) first (first_lowest (breaks_rule t) t.count found_is l)
 
-      kept : t.count ≤ first → answer_of (table_of t) Passes ≡ check (table_of t)
+      kept : t.count ≤ first → answer_of (table_of t) (Ok tt) ≡ check (table_of t)
       kept l = all_kept t (sym e ∙ h) (first_none (breaks_rule t) t.count found_is l)
 
 pub returns-then-out_of_range : goal.returns-then-out_of_range

@@ -1,7 +1,6 @@
 -- The loop of `first_broken`: the first of the tasks from i on that breaks a rule, and the largest C of them.
-use Rattle.std.specs.Prelude.{if◌then◌else◌}
 use mathlib.Core.Path.{◌≡◌, sym, ap}
-use mathlib.Core.Bool.{Bool, not}
+use mathlib.Core.Bool.{Bool, true, false, not}
 use mathlib.Core.List.{List}
 use Prim.Native.Nat.{ℕ, ◌+◌, ◌-◌, ◌≤◌, ◌<◌, max}
 use native.Mathlib.Omega.{arith}
@@ -43,16 +42,25 @@ module _ (longest distance deadline slack : List ℕ) (timeout count : ℕ) wher
             let e : i - 1 + 1 ≡ i = omega arith in
             rw (e, ← v.is_largest) (ap not (sym p))
 
-        pub inv_next : {r : ℕ} → r ≡ (if keeps then first else i - 1) → {m : ℕ} → m ≡ max (get_or longest (i - 1) 0) top → Inv r m (i - 1)
-        inv_next q s = record {
-          few = v.few;
-          to = omega (arith, v.to);
-          is_first = rw q (first_down breaks count v.is_first h v.to keeps kept);
-          is_largest = omega (arith, s, v.is_largest, largest_next longest count i h v.to);
-        }
+        module _ {m : ℕ} (s : m ≡ max (get_or longest (i - 1) 0) top) where
+          largest : m ≡ largest_from longest (i - 1) count
+          largest = omega (arith, s, v.is_largest, largest_next longest count i h v.to)
+
+          pub inv_kept : {r : ℕ} → keeps ≡ true → r ≡ first → Inv r m (i - 1)
+          inv_kept k e = record {
+            few = v.few;
+            to = omega (arith, v.to);
+            is_first = rw e (first_down breaks count v.is_first h v.to true (rw k at kept));
+            is_largest = largest;
+          }
+
+          pub inv_broken : {r : ℕ} → keeps ≡ false → r ≡ i - 1 → Inv r m (i - 1)
+          inv_broken k e = record {
+            few = v.few;
+            to = omega (arith, v.to);
+            is_first = rw e (first_down breaks count v.is_first h v.to false (rw k at kept));
+            is_largest = largest;
+          }
 
 abbrev pub invariant-loop-i : goal.invariant-loop-i
 invariant-loop-i l = Inv l.longest l.distance l.deadline l.slack l.timeout l.count l.first l.top l.i
-
-abbrev pub decreases-loop-i : goal.decreases-loop-i
-decreases-loop-i l = l.i

@@ -1,5 +1,5 @@
 -- The loop of `limits`: the first i limits stand in their places, and the least so far is the next.
-use mathlib.Core.Path.{◌≡◌, sym}
+use mathlib.Core.Path.{◌≡◌, refl, sym}
 use mathlib.Core.List.{List, []}
 use Prim.Native.Nat.{ℕ, ◌+◌, ◌^◌, ◌≤◌, ◌<◌, min}
 use native.Mathlib.Omega.{arith}
@@ -21,15 +21,12 @@ module _ {earliest slack : List ℕ} {count t : ℕ} where
     inv_place : i < 65
     inv_place = omega (arith, v.ready.few, v.to)
 
-    inv_end : count ≤ i → set limits i low ≡ limits_of earliest slack count t
+    inv_end : count ≤ i → set limits count low ≡ limits_of earliest slack count t
     inv_end h =
         let e : count ≡ i = omega (arith, v.to) in
         rw e (store_row _ 65 0 v.stored inv_place v.is)
 
     module _ (h : i < count) where
-      inv_known : i < 64
-      inv_known = omega (arith, v.ready.few)
-
       inv_slack : get_or slack i 0 < 2 ^ 49
       inv_slack = omega (arith, v.ready.small i h)
 
@@ -39,7 +36,7 @@ module _ {earliest slack : List ℕ} {count t : ℕ} where
         unfolding earliest_of
         inv_sum l = omega (arith, p, v.ready.soon i h, v.ready.time)
 
-        inv_next : {r : ℕ} → r ≡ min (e + get_or slack i 0) low → Inv earliest slack count t (set limits i low) r (i + 1)
+        inv_next : {r : ℕ} → r ≡ min low (e + get_or slack i 0) → Inv earliest slack count t (set limits i low) r (i + 1)
         unfolding latest_end
         inv_next q = record {
           ready = v.ready;
@@ -49,34 +46,14 @@ module _ {earliest slack : List ℕ} {count t : ℕ} where
         }
 
 pub loop-i-init : goal.loop-i-init
-loop-i-init c = search inv_start
+unfolding pad
+loop-i-init c = inv_start c.requires refl
 
-pub offset_bounds-limits-i : goal.offset_bounds-limits-i
-offset_bounds-limits-i c = search (rules, inv_place)
-
-pub bounds-limits-i : goal.bounds-limits-i
-bounds-limits-i c = search (rules, inv_place)
-
-pub earliest_at-e-requires : goal.earliest_at-e-requires
-earliest_at-e-requires c = search (rules, inv_known)
-
-pub offset_bounds-slack-i : goal.offset_bounds-slack-i
-offset_bounds-slack-i c = search (rules, inv_known)
-
-pub bounds-slack-i : goal.bounds-slack-i
-bounds-slack-i c = search (rules, inv_known)
-
-pub overflow_add-e : goal.overflow_add-e
-overflow_add-e c = search (inv_sum, inv_slack)
+pub overflow_add-earliest_at : goal.overflow_add-earliest_at
+overflow_add-earliest_at c = search (rules, inv_sum, inv_slack)
 
 pub loop-i-preserved : goal.loop-i-preserved
 loop-i-preserved c = search inv_next
-
-pub offset_bounds-limits-i-2 : goal.offset_bounds-limits-i-2
-offset_bounds-limits-i-2 c = search (rules, inv_place)
-
-pub bounds-limits-i-2 : goal.bounds-limits-i-2
-bounds-limits-i-2 c = search (rules, inv_place)
 
 pub returns : goal.returns
 returns c = search inv_end

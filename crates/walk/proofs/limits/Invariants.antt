@@ -1,7 +1,7 @@
 -- The loop of `limits`: the first i limits stand in their places, and the least so far is the next.
 use mathlib.Core.Path.{◌≡◌}
 use mathlib.Core.List.{List}
-use Prim.Native.Nat.{ℕ, ◌-◌, ◌≤◌}
+use Prim.Native.Nat.{ℕ, ◌≤◌}
 use Rattle.laws.specs.Sums.{least_of}
 use Rattle.laws.specs.Lists.{rows, pad}
 use Rattle.common.specs.Raw.{Boundable}
@@ -16,6 +16,3 @@ pub record Inv (earliest slack : List ℕ) (count t : ℕ) (limits : List ℕ) (
 
 abbrev pub invariant-loop-i : goal.invariant-loop-i
 invariant-loop-i l = Inv l.earliest l.slack l.count l.t l.limits l.low l.i
-
-abbrev pub decreases-loop-i : goal.decreases-loop-i
-decreases-loop-i l = l.count - l.i

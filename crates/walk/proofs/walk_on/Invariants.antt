@@ -1,8 +1,8 @@
 -- The loop of `walk_on`: the first k ends stand in their places, the sum so far is the next, and no place from `from` on and below k breaks the bound.
-use mathlib.Core.Path.{◌≡◌, sym, ap, ◌∙◌}
+use mathlib.Core.Path.{◌≡◌, sym, ap, subst, ◌∙◌}
 use mathlib.Core.Bool.{Bool, true, false, ◌&&◌}
 use mathlib.Core.List.{List, []}
-use Prim.Native.Nat.{ℕ, ◌+◌, ◌-◌, ◌^◌, ◌≤◌, ◌<◌, min}
+use Prim.Native.Nat.{ℕ, ◌+◌, ◌^◌, ◌≤◌, ◌<◌, min}
 use native.Mathlib.Omega.{arith}
 use borrow.Author.Tests.{le-leb, leb-true}
 use lib.ListN.{get_or, set}
@@ -41,8 +41,11 @@ module _ (longest tasks limits : List ℕ) (start count from kept : ℕ) where
     pub ended : k ≡ first_from broken from kept → record { ends = set ends k end; clear = k } ≡ walked_to longest tasks start (first_from broken from kept)
     ended e = λ i. record { ends = (inv_stored ∙ ap (λ (n : ℕ). pad 257 0 (rows (projected_at longest tasks start) (n + 1))) e) i; clear = e i }
 
-    pub inv_end : kept ≤ k → record { ends = set ends k end; clear = k } ≡ walked_to longest tasks start (first_from broken from kept)
-    inv_end h = ended (clear_end broken kept v.clear v.within h)
+    pub inv_end : kept ≤ k → record { ends = set ends kept end; clear = kept } ≡ walked_to longest tasks start (first_from broken from kept)
+    inv_end h =
+        let e : kept ≡ k = omega (arith, v.sum.to) in
+        subst (λ (n : ℕ). record { ends = set ends n end; clear = n } ≡ walked_to longest tasks start (first_from broken from kept)) (sym e)
+        (ended (clear_end broken kept v.clear v.within h))
 
     pub inv_known : {j i : ℕ} → i ≡ get_or tasks j 0 → j < kept → i < 64
     inv_known = summed_known v.sum
@@ -72,6 +75,3 @@ module _ (longest tasks limits : List ℕ) (start count from kept : ℕ) where
 
 abbrev pub invariant-loop-k : goal.invariant-loop-k
 invariant-loop-k l = Inv l.longest l.tasks l.limits l.start l.count l.from l.kept l.ends l.end l.k
-
-abbrev pub decreases-loop-k : goal.decreases-loop-k
-decreases-loop-k l = l.kept - l.k

@@ -1,13 +1,14 @@
--- `cabinet_fresh_common` meets its contract: the length, then all words written anew.
-use Rattle.cabinet.proofs.Beginning.{common_unfit, common_begins}
+-- The length, then all words written anew.
+use Rattle.cabinet.proofs.Beginning.{common_unfit, common_fit, common_written}
 use Rattle.cabinet.proofs.fresh.cabinet_fresh_common.Goals as goal
 
 pub returns-then-common-ne326 : goal.returns-then-common-ne326
 returns-then-common-ne326 c =
-    let p = common_unfit c.args.common.now c.if-common-ne326.true c.refuse.ensures in
-    record { value = p.0; common_after = p.1 }
+    let e = common_unfit c.args.common.now c.if-common-ne326.true in
+    record { value = rw e c.refused.ensures; common_after = rw e }
 
 pub returns : goal.returns
 returns c =
-    let p = common_begins c.args.common.now c.if-common-ne326.false c.fresh-first.ensures c.put_common.ensures c.accept.ensures in
-    record { value = p.0; common_after = p.1 }
+    let l = c.if-common-ne326.false in
+    let e = common_fit c.args.common.now l in
+    record { value = rw e c.accepted.ensures; common_after = rw e (common_written c.args.common.now l c.fresh.ensures c.put_common.ensures) }

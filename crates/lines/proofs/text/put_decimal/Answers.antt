@@ -1,64 +1,41 @@
--- The digits put in from the last: those of the rest are still to be put before them.
-use mathlib.Core.Path.{◌≡◌, refl, sym, ap, ◌∙◌}
-use mathlib.Core.List.{List, [], ◌∷◌}
-use Prim.Native.Nat.{ℕ, ◌+◌, ◌-◌, ◌/◌, ◌%◌, ◌^◌, ◌≤◌, ◌<◌}
+-- The digits put in from the last: the last ones of the rest are still to be put before them.
+use mathlib.Core.Path.{◌≡◌, sym, ap, ◌∙◌}
+use mathlib.Core.List.{List}
+use Prim.Native.Nat.{ℕ, zero, suc, ◌+◌, ◌-◌, ◌/◌, ◌%◌, ◌≤◌, ◌<◌}
 use native.Mathlib.Omega.{arith}
-use lib.ListN.{length, set, length-set, length-append}
+use lib.ListN.{length, set}
 use lib.Seq.{sets}
 use Rattle.laws.proofs.Runs.{sets_last}
 use Rattle.rules.specs.Session.{decimal}
 use Rattle.lines.specs.Text.{Put}
-use Rattle.lines.proofs.Decimal.{decimal_some, decimal_one, decimal_more}
-use Rattle.lines.proofs.text.put_decimal.Invariants.{Inv}
+use Rattle.lines.proofs.Decimal.{last_digits, length_last, decimal_last}
 use Rattle.lines.proofs.text.put_decimal.Goals as goal
 
-inv_start : {buf : List ℕ} {from n size : ℕ} → size ≡ length (decimal n) → n < 10 ^ 20 → from + length (decimal n) ≤ length buf → Inv buf from n buf n (from + size - 1)
-inv_start {n = n} e b h = record { small = b; long = refl; here = omega (arith, decimal_some n); last = omega (arith, decimal_some n); to_do = refl }
+all_left : (buf : List ℕ) (from n size : ℕ) → size ≡ length (decimal n) → sets buf from (decimal n) ≡ sets buf from (last_digits (from + size - from) n)
+all_left buf from n size e =
+    let k : from + size - from ≡ length (decimal n) = omega arith in
+    ap (sets buf from) (decimal_last n) ∙ rw k
 
-module _ {buf₀ : List ℕ} {from n : ℕ} {buf : List ℕ} {rest at : ℕ} (v : Inv buf₀ from n buf rest at) where
-  before : 10 ≤ rest → at ≡ from + length (decimal (rest / 10))
-  before h = omega (arith, v.last, ap length (decimal_more rest v.small h), length-append (decimal (rest / 10)) ((48 + rest % 10) ∷ []))
+module _ (buf₀ xs buf : List ℕ) (from at rest : ℕ) (p : sets buf₀ from xs ≡ sets buf from (last_digits (at - from) rest)) where
+  one_less : from < at → sets buf₀ from xs ≡ sets (set buf (at - 1) (48 + rest % 10)) from (last_digits (at - 1 - from) (rest / 10))
+  unfolding last_digits
+  one_less h =
+      let before : List ℕ = last_digits (at - 1 - from) (rest / 10) in
+      let k : at - from ≡ suc (at - 1 - from) = omega arith in
+      let here : from + length before ≡ at - 1 = omega (arith, length_last (at - 1 - from) (rest / 10)) in
+      (rw k at p) ∙ sets_last buf from before (48 + rest % 10) ∙ ap (λ i. sets (set buf i (48 + rest % 10)) from before) here
 
-  inv_before : 10 ≤ rest → 1 ≤ at
-  inv_before h = omega (arith, before h, decimal_some (rest / 10))
+  none_left : {size : ℕ} → at ≤ from → size ≡ length xs → Put buf₀ from xs buf (from + size)
+  unfolding last_digits
+  none_left h e =
+      let k : at - from ≡ zero = omega arith in
+      record { content = sym (rw k at p); place = omega arith }
 
-  inv_more : 10 ≤ rest → Inv buf₀ from n (set buf at (48 + rest % 10)) (rest / 10) (at - 1)
-  inv_more h = record {
-    small = omega (arith, v.small);
-    long = length-set buf at _ ∙ v.long;
-    here = rw length-set (omega (arith, v.here));
-    last = omega (arith, before h, inv_before h);
-    to_do = v.to_do ∙ ap (sets buf from) (decimal_more rest v.small h) ∙ sets_last buf from (decimal (rest / 10)) (48 + rest % 10) ∙ rw (← (before h));
-  }
+pub loop-at-init : goal.loop-at-init
+loop-at-init c = search all_left
 
-  inv_done : {size : ℕ} → rest < 10 → size ≡ length (decimal n) → Put buf₀ from (decimal n) (set buf at (48 + rest)) (from + size)
-  inv_done h e =
-      let w : from ≡ at = omega (arith, v.last, ap length (decimal_one rest h)) in
-      record {
-        content = sym (v.to_do ∙ ap (sets buf from) (decimal_one rest h) ∙ ap (λ (i : ℕ). set buf i (48 + rest)) w);
-        place = omega arith;
-      }
-
-pub overflow_sub-at : goal.overflow_sub-at
-overflow_sub-at c = omega (arith, decimal_some c.args.n)
-
-pub loop-rest-init : goal.loop-rest-init
-loop-rest-init c = inv_start c.decimal_size-size.ensures (omega arith) (omega arith)
-
-pub bounds-buf-at : goal.bounds-buf-at
-bounds-buf-at c = c.loop-rest.invariant.here
-
-pub overflow_sub-at-in-loop-rest : goal.overflow_sub-at-in-loop-rest
-overflow_sub-at-in-loop-rest c = search inv_before
-
-pub loop-rest-preserved : goal.loop-rest-preserved
-loop-rest-preserved c = search inv_more
-
-pub bounds-buf-at-2 : goal.bounds-buf-at-2
-bounds-buf-at-2 c = c.loop-rest.invariant.here
-
-pub shape_of-buf : goal.shape_of-buf
-shape_of-buf c = simp length-set c.loop-rest.invariant.long
+pub loop-at-preserved : goal.loop-at-preserved
+loop-at-preserved c = search one_less
 
 pub returns : goal.returns
-returns c = search inv_done
+returns c = search none_left

@@ -1,10 +1,9 @@
 -- The places used, and those that are not: two stretches of words.
 use mathlib.Core.Path.{◌≡◌, sym, ap, ◌∙◌}
-use mathlib.Core.Bool.{Bool, true, false, not, and-true}
+use mathlib.Core.Bool.{Bool, true, false, and-true}
 use mathlib.Core.List.{List}
 use Prim.Native.Nat.{ℕ, ◌+◌, ◌-◌, ◌≤◌}
 use native.Mathlib.Omega.{arith}
-use borrow.Author.Tests.{not-true, not-false}
 use lib.ListN.{length, take, drop, length-drop}
 use lib.Seq.{take_all, drop-drop}
 use Rattle.laws.specs.Tests.{all_of}
@@ -20,23 +19,23 @@ module _ (ws : List ℕ) (count number : ℕ) (long : length ws ≡ 326) (few : 
       let e : 70 + count - 70 ≡ count = omega arith in
       rw (e, all_places)
 
-  unused : take (326 - (70 + count)) (drop (70 + count) ws) ≡ drop count (take 256 (drop 70 ws))
+  unused : take (length ws - (70 + count)) (drop (70 + count) ws) ≡ drop count (take 256 (drop 70 ws))
   unused =
-      take_all (326 - (70 + count)) (drop (70 + count) ws) (rw length-drop (omega arith))
+      take_all (length ws - (70 + count)) (drop (70 + count) ws) (rw length-drop (omega arith))
       ∙ sym (ap (drop count) all_places ∙ drop-drop count 70 ws)
 
   module _ {b : Bool} (p : b ≡ all_below number (take (70 + count - 70) (drop 70 ws))) where
-    unknown : not b ≡ true → false ≡ known_tasks number count (take 256 (drop 70 ws))
+    unknown : b ≡ false → b ≡ known_tasks number count (take 256 (drop 70 ws))
     unfolding known_tasks all_of
-    unknown h = rw (← used, ← p, not-true b h)
+    unknown h = h ∙ rw (← used, ← p, h)
 
-    the_rest : not b ≡ false → {r : Bool} → r ≡ all_below 1 (take (326 - (70 + count)) (drop (70 + count) ws))
+    the_rest : b ≡ true → {r : Bool} → r ≡ all_below 1 (take (length ws - (70 + count)) (drop (70 + count) ws))
         → r ≡ known_tasks number count (take 256 (drop 70 ws))
     unfolding known_tasks all_of
-    the_rest h {r} q = rw (← used, ← p, not-false b h, ← unused, ← q) (sym (and-true r))
+    the_rest h {r} q = rw (← used, ← p, h, ← unused, ← q) (sym (and-true r))
 
-pub returns-then-not-all_below : goal.returns-then-not-all_below
-returns-then-not-all_below c = search unknown
+pub returns-then-all_below : goal.returns-then-all_below
+returns-then-all_below c = search the_rest
 
-pub returns : goal.returns
-returns c = search the_rest
+pub returns-else-all_below : goal.returns-else-all_below
+returns-else-all_below c = search unknown

@@ -3,8 +3,9 @@ use mathlib.Core.Path.{◌≡◌, sym, ap, ◌∙◌}
 use mathlib.Core.List.{List, [], ◌∷◌, ◌++◌, append-nil}
 use Prim.Native.Nat.{ℕ}
 use native.Mathlib.Omega.{arith}
-use lib.ListN.{length, length-append, drop_of_length-le}
+use lib.ListN.{length, drop, length-append, drop_of_length-le}
 use lib.Seq.{sets}
+use Rattle.words.proofs.Copies.{part_put}
 use Rattle.laws.proofs.Runs.{sets_append, sets_front}
 use Rattle.node.specs.declared.Node.{Node}
 use Rattle.states.specs.Common.{mark, common_words}
@@ -40,4 +41,11 @@ module _ (ws : List ℕ) (n : Node) (long : length ws ≡ 336) (earliest : lengt
       ∙ whole
 
 pub returns : goal.returns
-returns c = search (rules, all_put)
+returns c =
+    let n = c.args.n in
+    let ws = c.args.words.now in
+    let number : List ℕ = n.number ∷ n.progress ∷ n.completed ∷ c.from-running.result ∷ n.latest ∷ [] in
+    let first : c.copy_from_slice.new.self ++ drop 5 ws ≡ sets ws 0 number =
+    ap (λ (l : List ℕ). l ++ drop 5 ws) c.copy_from_slice.ensures.after ∙ sym (sets_front number ws (omega arith)) in
+    let second = part_put _ _ c.copy_from_slice-2.new.self 5 5 (search rules) (search rules) c.copy_from_slice-2.ensures.after in
+    all_put ws n c.requires (search rules) (search rules) (search rules) c.round_words.ensures first second c.put_common.ensures

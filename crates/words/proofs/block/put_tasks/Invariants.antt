@@ -1,10 +1,8 @@
--- 256 bytes copied in as words, one a turn.
-use Prim.Native.Nat.{◌-◌}
-use Rattle.words.proofs.Copies.{Putting}
+-- 256 bytes put in as words, one a turn.
+use mathlib.Core.Path.{◌≡◌}
+use lib.ListN.{take}
+use Rattle.std.proofs.lemmas.List.Edits.{sets}
 use Rattle.words.proofs.block.put_tasks.Given as goal
 
 abbrev pub invariant-loop-i : goal.invariant-loop-i
-invariant-loop-i l = Putting 256 l.initial.words l.from l.tasks l.words l.i
-
-abbrev pub decreases-loop-i : goal.decreases-loop-i
-decreases-loop-i l = 256 - l.i
+invariant-loop-i l = l.words ≡ sets l.initial.words l.from (take l.i l.fn.tasks)

@@ -1,10 +1,9 @@
--- 256 bytes copied out of words, one a turn.
-use Prim.Native.Nat.{◌-◌}
-use Rattle.words.proofs.Copies.{Taken}
+-- The places so far hold the words from the place on.
+use Rattle.std.proofs.Common.{◌≡◌, ◌<◌, ℕ, get_or, length}
 use Rattle.words.proofs.block.tasks_in.Given as goal
 
 abbrev pub invariant-loop-i : goal.invariant-loop-i
-invariant-loop-i l = Taken 256 l.words l.from l.out l.i
-
-abbrev pub decreases-loop-i : goal.decreases-loop-i
-decreases-loop-i l = 256 - l.i
+invariant-loop-i l = record {
+  places : length l.out ≡ 256;
+  copied : (k : ℕ) → k < l.i → get_or l.out k 0 ≡ get_or l.x-items k 0;
+}

@@ -1,8 +1,0 @@
--- All places hold 0.
-use mathlib.Core.Path.{refl}
-use Rattle.laws.specs.Lists.{pad}
-use Rattle.walk.proofs.no_ends.Goals as goal
-
-pub returns : goal.returns
-unfolding pad
-returns c = refl
