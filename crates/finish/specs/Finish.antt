@@ -10,6 +10,12 @@ use Rattle.finish.specs.declared.Finished.{Finished}
 abbrev pub numbers_of : Answer rules.Node → Answer Finished
 numbers_of = told_as (λ m. record { progress = m.progress; completed = m.completed; running = m.running; latest = m.latest })
 
+-- The same numbers afterwards, for every answer: where the finish is refused, the node's own.
+abbrev pub numbers_left : Node → Answer rules.Node → Finished
+numbers_left n (done m) = record { progress = m.progress; completed = m.completed; running = m.running; latest = m.latest }
+numbers_left n (refused k) = record { progress = n.progress; completed = n.completed; running = n.running; latest = n.latest }
+numbers_left n (refused_by k i) = record { progress = n.progress; completed = n.completed; running = n.running; latest = n.latest }
+
 -- "A refusal gives its number": nothing else is told.
 abbrev pub accepted : Answer rules.Node → Answer (Unit {0})
 accepted = told_as (λ m. tt)
