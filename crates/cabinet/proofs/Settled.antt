@@ -4,15 +4,20 @@ use mathlib.Core.Bool.{false}
 use mathlib.Core.List.{List}
 use Prim.Native.Nat.{ℕ}
 use lib.ListN.{length}
+use Rattle.std.specs.Prelude.{Result}
 use Rattle.rules.specs.Node as rules
 use Rattle.rules.specs.Numbers.{number}
 use Rattle.rules.specs.Written.{write_number}
+use Rattle.refusal.specs.declared.Refusal.{Refusal}
+use Rattle.refusal.specs.Refusal.{answer_of, number_of}
+use Rattle.node.specs.declared.StartRefusal.{StartRefusal}
+use Rattle.node.specs.Refusals.{start_answer}
 use Rattle.cabinet.specs.declared.reply.Reply.{Reply}
 use Rattle.cabinet.specs.declared.reply.NumberReply.{NumberReply}
 use Rattle.cabinet.specs.declared.reply.ReportReply.{ReportReply}
 use Rattle.cabinet.specs.declared.reply.CloseReply.{CloseReply}
 use Rattle.cabinet.specs.declared.reply.RecordReply.{RecordReply}
-use Rattle.cabinet.specs.Replies.{replied, left, reported, closing, number_told, used_told, record_told}
+use Rattle.cabinet.specs.Replies.{replied, no_close, left, reported, closing, number_told, used_told, record_told}
 use Rattle.cabinet.specs.Fresh.{check_door, fresh_common_door, fresh_node_door}
 use Rattle.cabinet.specs.Nodes.{start_door, finish_door, report_door, close_door}
 use Rattle.cabinet.specs.Nodes as nodes
@@ -26,6 +31,16 @@ one e d = e ∙ sym d
 
 both : {A B : Type 0} {r s x : A} {l m y : B} → (r ≡ x) × (l ≡ y) → (s ≡ x) × (m ≡ y) → (r ≡ s) × (l ≡ m)
 both e d = (one e.0 d.0, one e.1 d.1)
+
+-- the replies that stand for an answer
+pub reply_settled : (a : Result ℕ Refusal) {r s : Reply} → r ≡ replied (λ v. v) (answer_of a) → s ≡ replied (λ v. v) (answer_of a) → r ≡ s
+reply_settled a = one
+
+pub start_reply_settled : (a : Result ℕ StartRefusal) {r s : Reply} → r ≡ replied (λ v. v) (start_answer a) → s ≡ replied (λ v. v) (start_answer a) → r ≡ s
+start_reply_settled a = one
+
+pub no_close_settled : (e : Refusal) {r s : CloseReply} → r ≡ no_close (number_of e) → s ≡ no_close (number_of e) → r ≡ s
+no_close_settled e = one
 
 module _ (ts : List ℕ) where
   pub check_settled : {r s : Reply} → r ≡ replied (λ _. 0) (check_door ts) → s ≡ replied (λ _. 0) (check_door ts) → r ≡ s
