@@ -1,12 +1,15 @@
--- Answers whose refusals name no task: those of a look at lent words, and of a finish.
+-- Answers whose refusals name no task: those of a look at lent words, and of a finish; and the one refusal of a start that names one.
 use mathlib.Core.Path.{◌≡◌, refl, sym, ap}
 use mathlib.Core.Bool.{Bool, true, false, not}
+use mathlib.Core.Option.{Option, none, some}
 use Prim.Native.Nat.{ℕ}
 use native.Mathlib.Omega.{arith}
-use Rattle.laws.specs.Tests.{◌<?◌}
-use Rattle.rules.specs.Answer.{Answer, done, refused, refused_by, refuse◌if◌else◌, ◌>>=◌}
+use Rattle.laws.specs.Tests.{◌<?◌, ◌=?◌}
+use Rattle.rules.specs.Answer.{Answer, done, refused, refused_by, refuse◌if◌else◌, refuse◌naming◌else◌, ◌>>=◌}
+use Rattle.rules.specs.Table.{Table}
+use Rattle.rules.specs.Common.{L}
 use Rattle.rules.specs.Close.{too_late}
-use Rattle.rules.specs.Node.{Node, left_behind, finish}
+use Rattle.rules.specs.Node.{Node, left_behind, beyond_lock, broken_now, start, finish}
 use Rattle.refusal.specs.Refusal.{told_as}
 use Rattle.refusal.proofs.Answers.{refused_same}
 use Rattle.rules.proofs.Answers.{refused≢done, refused_by≢done}
@@ -37,6 +40,23 @@ pub plain_bad : {A B : Type 0} (form : A → B) (a : Answer A) → Plain a → {
 plain_bad form (done x) p e = refused≢done e
 plain_bad form (refused n) p e = ap refused (refused_same (sym e))
 plain_bad form (refused_by n i) p e = absurd (p.unnamed n i refl)
+
+-- 9 is the one refusal of a start that names a task
+named_past : {A : Type 0} (n : ℕ) (b : Bool) {a : Answer A} {k i : ℕ} → (refuse n if b else a) ≡ refused_by k i → a ≡ refused_by k i
+named_past n true e = absurd (refused≢refused_by e)
+named_past n false e = e
+
+named_nine : {A : Type 0} (o : Option ℕ) (a : A) {k i : ℕ} → (refuse 9 naming o else done a) ≡ refused_by k i → k ≡ 9
+named_nine (some j) a e = cc
+named_nine none a e = refused_by≢done (sym e)
+
+pub started_nine : (tab : Table) (n : Node) (time : ℕ) {k i : ℕ} → start tab n time ≡ refused_by k i → k ≡ 9
+unfolding start
+started_nine tab n time e =
+    named_nine (broken_now tab n time) _
+    (named_past 8 (beyond_lock n)
+    (named_past 7 (n.progress =? L n.common)
+    (named_past 6 n.running (named_past 5 (left_behind n) (named_past 4 (time <? n.latest) (named_past 3 (too_late time) e))))))
 
 pub plain_finish : (n : Node) (time : ℕ) → Plain (finish n time)
 unfolding finish

@@ -27,6 +27,11 @@ module _ {longest tasks : List ℕ} {start n : ℕ} where
   summed_start s = record { ready = s; to = omega arith; is = sym (projected_none longest tasks start) }
 
   module _ {end k : ℕ} (v : Summed longest tasks start n end k) where
+    pub summed_end : n ≤ k → end ≡ projected_at longest tasks start n
+    summed_end h =
+        let e : n ≡ k = omega (arith, v.to) in
+        rw e v.is
+
     -- of any of the jobs
     module _ {j i : ℕ} (e : i ≡ get_or tasks j 0) (l : j < n) where
       pub summed_known : i < 64

@@ -22,6 +22,9 @@ use Rattle.walk.specs.Walk.{walked_to, broken_at}
 use Rattle.judge.specs.Lent.{clear_places, prepared}
 
 module _ {t : Table} {c : Common} (k : Checked t) (g : Given t c) where
+  pub start_small : c.start < 2 ^ 49
+  start_small = (record_of.numbers g).start
+
   -- the sums may begin at any small number
   pub may_sum : {w : ℕ} → w < 2 ^ 49 → Summable t.longest c.tasks w c.count
   may_sum h =

@@ -3,7 +3,7 @@ use mathlib.Core.Path.{◌≡◌, refl, sym, ap, ap₂, ◌∙◌}
 use mathlib.Core.Option.{Option, none, some}
 use mathlib.Core.List.{List, [], ◌∷◌, ◌++◌, append_assoc}
 use Prim.Native.Nat.{ℕ, ◌+◌, ◌*◌, ◌≤◌, ◌<◌}
-use native.Mathlib.Nat.{mul-suc, mul-zero}
+use native.Mathlib.Nat.{mul-suc, mul-zero, mul-le-mul_left}
 use native.Mathlib.Omega.{arith}
 use native.Mathlib.Numerals.{add-one}
 use lib.ListN.{length, take, drop, get_or, length-append, drop_of_length-le}
@@ -24,12 +24,18 @@ module _ {A : Type 0} (f : A → List ℕ) (each : ℕ) where
     pub long : length words ≡ length words₀
     pub to_do : sets words₀ 0 (joined f xs) ≡ sets words (each * i) (joined f (drop i xs))
 
+  pub put_none : (xs : List A) (words : List ℕ) → each * length xs ≤ length words → Put xs words words 0
+  put_none xs words h = record { room = h; long = refl; to_do = rw (mul-zero each) }
+
   module _ (same : (x : A) → length (f x) ≡ each) where
     pub length_joined : (xs : List A) → length (joined f xs) ≡ each * length xs
     length_joined [] = sym (mul-zero each)
     length_joined (x ∷ xs) = length-append (f x) (joined f xs) ∙ omega (arith, same x, length_joined xs, mul-suc each (length xs))
 
     module _ {xs : List A} {words₀ words : List ℕ} {i : ℕ} (v : Put xs words₀ words i) where
+      pub put_room : i < length xs → each * i + each ≤ length words
+      put_room h = omega (arith, v.room, v.long, mul-suc each i, mul-le-mul_left each h)
+
       pub put_next : (x : A) → i < length xs → x ≡ get_or xs i x → {words' : List ℕ} → words' ≡ sets words (each * i) (f x) → Put xs words₀ words' (i + 1)
       put_next x h e {words'} p =
           let k : each * i + length (f x) ≡ each * (i + 1) = rw (add-one i) (omega (arith, same x, mul-suc each i)) in

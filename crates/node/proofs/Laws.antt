@@ -1,11 +1,14 @@
 -- Laws of the node by value: the way back from the rules' node, and what is known of a node that was given back.
 use mathlib.Core.Path.{◌≡◌, refl, sym, ap, ◌∙◌}
-use mathlib.Core.Bool.{Bool}
+use mathlib.Core.Bool.{Bool, true, false}
+use mathlib.Core.Logic.{⊎_elim}
 use Prim.Native.Nat.{ℕ, ◌+◌, ◌-◌, ◌^◌, ◌≤◌, ◌<◌}
+use native.Mathlib.Nat.{eq-or-lt_of_le}
 use native.Mathlib.Omega.{arith}
 use lib.ListN.{get_or}
 use Rattle.std.specs.Prelude as code
 use Rattle.std.specs.Prelude.{Some, None}
+use Rattle.rules.specs.Answer.{Answer, refused, refuse◌if◌else◌}
 use Rattle.rules.specs.Common.{no_job, job_at}
 use Rattle.table.specs.declared.Table.{Table}
 use Rattle.common.specs.declared.Common.{Common}
@@ -81,3 +84,14 @@ named {n} v =
     let e : n.progress + 1 - n.common.base - 1 ≡ n.progress - n.common.base = omega (arith, v.base) in
     ap (λ (k : ℕ). (get_or (common_of n.common).kept k no_job).task_of) e
     ∙ job_there g (n.progress - n.common.base) (omega (arith, v.base, v.more, length_is g))
+
+-- a rung of a ladder
+module _ {A : Type 0} (k : ℕ) (rest : Answer A) where
+  pub stopped : {b : Bool} → b ≡ true → (refuse k if b else rest) ≡ refused k
+  stopped e = ap (λ (b : Bool). refuse k if b else rest) e
+
+  pub passed : {b : Bool} → b ≡ false → (refuse k if b else rest) ≡ rest
+  passed e = ap (λ (b : Bool). refuse k if b else rest) e
+
+pub strictly : {a b : ℕ} → a ≤ b → (a ≡ b → ⊥) → a < b
+strictly h d = ⊎_elim (λ e. absurd (d e)) (λ l. l) (eq-or-lt_of_le h)

@@ -1,13 +1,16 @@
 -- A list read element by element: what is read is what was read so far with the rest of the list behind it. Once for every kind of element.
-use mathlib.Core.Path.{◌≡◌, refl, sym, ap, ◌∙◌}
-use mathlib.Core.List.{List, [], ◌∷◌, ◌++◌, append_assoc, append-nil}
+use mathlib.Core.Path.{◌≡◌, refl, sym, ap, ap₂, ◌∙◌}
+use mathlib.Core.List.{List, [], ◌∷◌, ◌++◌, map, append_assoc, append-nil}
 use Prim.Native.Nat.{ℕ, suc, ◌+◌, ◌-◌, ◌≤◌, ◌<◌}
 use native.Mathlib.Omega.{arith}
-use lib.ListN.{length, drop, length-append}
+use lib.ListN.{length, drop, set, length-append, length-map}
+use Rattle.laws.specs.Lists.{pad}
+use Rattle.laws.proofs.Lists.{map_append, pad_snoc}
 use Rattle.rules.specs.Answer.{Answer, done, refused, refused_by}
 use Rattle.rules.specs.Numbers.{Read, Reads, after, give}
 use Rattle.rules.specs.Written.{times}
-use Rattle.number.proofs.Told.{Done}
+use Rattle.number.specs.Numbers.{told}
+use Rattle.number.proofs.Told.{Done, told_done}
 
 module _ {A : Type 0} where
   unfoldable pub behind : List A → Answer (Read (List A)) → Answer (Read (List A))
@@ -60,3 +63,38 @@ module _ {A : Type 0} {rd : Reads A} {s : List ℕ} {from count : ℕ} {acc : Li
       many = simp length-append (omega (arith, v.many));
       to_do = v.to_do ∙ rw (left, d.is) (behind_more acc x (times (count - (i + 1)) rd (drop next s)));
     }
+
+-- the elements so far, as an array of so much room holds them
+pub record InRoom {A C : Type 0} (form : A → C) (room : ℕ) (blank : C) (rd : Reads A) (s : List ℕ) (from count : ℕ) (list : List C) (at i : ℕ) : Type 0 where
+  pub few : count ≤ room
+  pub acc : List A
+  pub so_far : Listing rd s from count acc at i
+  pub holds : list ≡ pad room blank (map form acc)
+
+pub room_start :
+    {A C : Type 0} (form : A → C) (room : ℕ) (blank : C) (rd : Reads A) (s : List ℕ) (from count : ℕ) {list : List C} → count ≤ room → from ≤ length s →
+    list ≡ pad room blank [] → InRoom form room blank rd s from count list from 0
+room_start form room blank rd s from count h k e = record { few = h; acc = []; so_far = listing_start rd s from count k; holds = e }
+
+module _ {A C : Type 0} {form : A → C} {room : ℕ} {blank : C} {rd : Reads A} {s : List ℕ} {from count : ℕ} {list : List C} {at i : ℕ}
+    (v : InRoom form room blank rd s from count list at i) where
+  pub room_done :
+      {D : Type 0} (value : List A → ℕ → D) (halt : ℕ → D) → count ≤ i → value v.acc at ≡ told value halt s (times count rd (drop from s))
+  room_done value halt h = sym (rw (listing_done v.so_far h) (told_done value halt s v.acc at v.so_far.on))
+
+  pub room_stop :
+      i < count → {D : Type 0} (value : List A → ℕ → D) (halt : ℕ → D) {n : ℕ} → rd (drop at s) ≡ refused n → halt n ≡ told value halt s (times count rd (drop from s))
+  room_stop h value halt e = rw (listing_stop v.so_far h e)
+
+  pub room_more : i < count → {x : A} {next : ℕ} {y : C} → Done s (rd (drop at s)) x next → form x ≡ y → InRoom form room blank rd s from count (set list i y) next (i + 1)
+  room_more h {x} {next} {y} d e =
+      let m : length (map form v.acc) ≡ i = length-map v.acc form ∙ v.so_far.many in
+      record {
+        few = v.few;
+        acc = v.acc ++ (x ∷ []);
+        so_far = listing_more v.so_far h d;
+        holds =
+            ap₂ (λ (l : List C) (k : ℕ). set l k y) v.holds (sym m)
+            ∙ pad_snoc room blank (map form v.acc) y (omega (arith, m, v.few))
+            ∙ ap (pad room blank) (ap (λ (z : C). map form v.acc ++ (z ∷ [])) (sym e) ∙ sym (map_append form v.acc (x ∷ [])));
+      }

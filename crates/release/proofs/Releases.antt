@@ -1,6 +1,8 @@
 -- Laws of the checks of a list of releases.
 --     releases_count, entries_count              the lists of a record
 --     releases_are, release_here, releases_end   the releases as the code walks them
+--     listed_here, listed_end                    and as the record stands for them, from a place on
+--     listed_none, early_none                    15 and 16 of no release
 --     few_listed, all_entered, listable, walked  what 3 and 15 leave of a list and of each release: no sum wraps
 use mathlib.Core.Path.{◌≡◌, refl, sym, ap, ◌∙◌}
 use mathlib.Core.Bool.{false}
@@ -21,7 +23,7 @@ use Rattle.round.specs.declared.Round.{Round}
 use Rattle.round.specs.Round.{release_of, releases_of, no_release, entry_of, entries_of, no_entry}
 use Rattle.rules.specs.Table.{Task, Table, task}
 use Rattle.rules.specs.Judge.{Release}
-use Rattle.rules.specs.Close.{ill_listed, ill_formed}
+use Rattle.rules.specs.Close.{ill_listed, ill_formed, too_early}
 use Rattle.release.specs.Listing.{Listable}
 
 -- the lists that a record stands for
@@ -48,6 +50,25 @@ module _ (xs : List listed.Release) (i : ℕ) where
 
   pub releases_end : length xs ≤ i → map release_of (drop i xs) ≡ []
   releases_end h = ap (map release_of) (drop_of_length-le xs {i = i} h)
+
+module _ (q : Round) (i : ℕ) where
+  pub listed_here : i < q.listed → drop i (releases_of q) ≡ release_of (get_or q.releases i no_release) ∷ drop (i + 1) (releases_of q)
+  listed_here h =
+      let at : ℕ → Release = λ k. release_of (get_or q.releases k no_release) in
+      drop_here (rows at q.listed) i (release_of no_release) (omega (arith, releases_count q)) (rows_at at q.listed i (release_of no_release) h)
+
+  pub listed_end : q.listed ≤ i → drop i (releases_of q) ≡ []
+  listed_end h =
+      drop_of_length-le (releases_of q) {i = i} (omega (arith, releases_count q))
+
+-- 15 and 16 of no release
+pub listed_none : (tab : Table) (least : ℕ) → ill_listed tab least [] ≡ false
+unfolding ill_listed
+listed_none tab least = refl
+
+pub early_none : (tab : Table) (r : ℕ) (E : List ℕ) → too_early tab r E [] ≡ false
+unfolding too_early
+early_none tab r E = refl
 
 -- what a list that stands says of each release
 each_listed : (tab : Table) (least : ℕ) (xs : List Release) (d : Release) → ill_listed tab least xs ≡ false → (i : ℕ) → i < length xs

@@ -2,11 +2,11 @@
 use mathlib.Core.Path.{◌≡◌, refl, sym, ap}
 use mathlib.Core.Option.{Option, none, some}
 use mathlib.Core.List.{List, [], ◌∷◌, ◌++◌, map, foldr}
-use Prim.Native.Nat.{ℕ, ◌+◌, ◌*◌, ◌≤◌}
-use native.Mathlib.Nat.{mul-suc}
+use Prim.Native.Nat.{ℕ, ◌+◌, ◌*◌, ◌≤◌, ◌<◌}
+use native.Mathlib.Nat.{mul-suc, mul-le-mul_left}
 use native.Mathlib.Omega.{arith}
-use lib.ListN.{length, take, get_or}
-use Rattle.laws.proofs.Lists.{length_rows}
+use lib.ListN.{length, take, drop, get_or, length-append}
+use Rattle.laws.proofs.Lists.{drop_here, length_rows, rows_at}
 use Rattle.laws.proofs.Sequences.{rows_take}
 use Rattle.rules.specs.Judge as rules
 use Rattle.rules.specs.Written.{entry_numbers, numbers_of}
@@ -22,6 +22,14 @@ module _ (q : Round) where
 
   pub entries_listed : q.entered ≤ length q.entries → entries_of q ≡ map entry_of (take q.entered q.entries)
   entries_listed h = sym (rows_take entry_of q.entries no_entry q.entered h)
+
+-- and from a place on
+module _ (q : Round) (i : ℕ) where
+  pub releases_here : i < q.listed → drop i (releases_of q) ≡ release_of (get_or q.releases i no_release) ∷ drop (i + 1) (releases_of q)
+  releases_here h = drop_here (releases_of q) i (release_of no_release) (rw length_rows h) (rows_at _ q.listed i (release_of no_release) h)
+
+  pub entries_here : i < q.entered → drop i (entries_of q) ≡ entry_of (get_or q.entries i no_entry) ∷ drop (i + 1) (entries_of q)
+  entries_here h = drop_here (entries_of q) i none (rw length_rows h) (rows_at _ q.entered i none h)
 
 -- an entry's numbers before others
 pub entry_before : (e : Option rules.Report) (ns : List ℕ) → entry_numbers e ns ≡ entry_numbers e [] ++ ns
@@ -48,5 +56,14 @@ pub entry_count : (e : Option rules.Report) (ns : List ℕ) → length (entry_nu
 entry_count none ns = omega arith
 entry_count (some e) ns = omega arith
 
+entries_count : (es : List (Option rules.Report)) → length (foldr entry_numbers [] es) ≤ 4 * length es
+entries_count [] = omega arith
+entries_count (e ∷ es) = omega (arith, entry_count e (foldr entry_numbers [] es), entries_count es, mul-suc 4 (length es))
+
 pub head_count : (q : Round) → length (head_numbers q) ≡ 3 + 2 * q.listed
 head_count q = omega (arith, release_count (releases_of q) (q.entered ∷ []), length_rows (λ i. release_of (get_or q.releases i no_release)) q.listed)
+
+pub numbers_few : (q : Round) → q.listed ≤ 64 → q.entered ≤ 15 → length (numbers_of (round_of q)) ≤ 191
+numbers_few q h k =
+    rw (numbers_split q, length-append)
+    (omega (arith, head_count q, entries_count (entries_of q), length_rows (λ i. entry_of (get_or q.entries i no_entry)) q.entered, mul-le-mul_left 4 k, mul-le-mul_left 2 h))

@@ -11,10 +11,10 @@ use Rattle.lines.proofs.text.put_field.Goals as goal
 
 module _ {s word s' : List ℕ} {from next : ℕ} (n : ℕ) (b : n < 2 ^ 64) (p : Put s from word s' next) where
   number_fits : from + (length word + 20) ≤ length s → next + length (decimal n) ≤ length s'
-  number_fits h = omega (arith, length_decimal 19 n (omega arith) b, p.place, put_long p)
+  number_fits h = omega (arith, length_decimal 19 n (omega arith), p.place, put_long p)
 
   both_put : {s'' : List ℕ} {end : ℕ} → Put s' next (decimal n) s'' end → PutWithin (length word + 20) s from (word ++ decimal n) s'' end
-  both_put q = record { put = put_then p q; near = omega (arith, length_decimal 19 n (omega arith) b, p.place, q.place) }
+  both_put q = record { put = put_then p q; near = omega (arith, length_decimal 19 n (omega arith), p.place, q.place) }
 
 pub put_decimal-requires : goal.put_decimal-requires
 put_decimal-requires c = search number_fits
