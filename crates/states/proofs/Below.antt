@@ -1,17 +1,18 @@
 -- Laws of lists whose elements all lie below a limit.
 --     each_below, are_below        element by element
 --     zeros, zeros_below           below 1 there is only 0
---     below_list_all               as the library's `all` tests it
+--     below_list_all, below_folded as the library's `all` tests it, and a fold over all of them
 --     sum_total, small_sum         their sum, as the library makes it
 use mathlib.Core.Path.{◌≡◌, refl, sym, ap, ◌∙◌}
-use mathlib.Core.Bool.{Bool, true, ◌&&◌}
+use mathlib.Core.Bool.{Bool, true, ◌&&◌, and-true}
 use mathlib.Core.List.{List, [], ◌∷◌}
 use Prim.Native.Nat.{ℕ, zero, suc, ◌^◌, ◌≤◌, ◌<◌}
 use native.Mathlib.Omega.{arith}
 use borrow.Author.Tests.{ltb-true, lt-ltb}
 use lib.ListN.{length, get_or, replicate, length-replicate, get_or-replicate}
 use lib.Dec.{ltb}
-use Rattle.std.specs.List.{sum, list_all, All}
+use Rattle.std.proofs.Math.Bool.{and_assoc}
+use Rattle.std.specs.List.{fold, sum, list_all, All}
 use Rattle.std.proofs.lemmas.List.{get_or_default}
 use Rattle.std.proofs.lemmas.List.Recursion.{is_sum_by}
 use Rattle.std.proofs.lemmas.List.Sums.{sum_by-le}
@@ -58,6 +59,11 @@ pub below_list_all : (limit : ℕ) (l : List ℕ) → list_all (λ x. ltb x limi
 unfolding all_below all_of
 below_list_all limit [] = refl
 below_list_all limit (x ∷ l) = ap (λ (b : Bool). (x <? limit) && b) (below_list_all limit l)
+
+pub below_folded : (limit : ℕ) (b : Bool) (l : List ℕ) → fold (λ a x. a && ltb x limit) b l ≡ b && all_below limit l
+unfolding all_below all_of
+below_folded limit b [] = sym (and-true b)
+below_folded limit b (x ∷ l) = below_folded limit (b && (x <? limit)) l ∙ and_assoc b (x <? limit) (all_below limit l)
 
 pub sum_total : (l : List ℕ) → sum l ≡ total l
 unfolding total

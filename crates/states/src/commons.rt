@@ -12,11 +12,11 @@ use refusal::Refusal;
 use table::Table;
 use words::block::{block, put_block, put_tasks, tasks_in};
 
-// Every word lies below a limit.
+// Every word lies below a limit. All are looked at, whatever the first ones say: several are compared at a time then.
 fn all_below(words: &[u64], limit: u64) -> bool
     ensures { result ≡ all_below limit words.now }
 {
-    words.iter().all(|x| *x < limit)
+    words.iter().fold(true, |below, x| below & (*x < limit))
 }
 
 // A mark, the last round's time, W and the count of jobs kept.
