@@ -23,7 +23,9 @@ fn last_group(before: usize, value: u64, group: u64, next: usize) -> Result<(u64
     Ok((value, next))
 }
 
-// Reads the number that stands at a place: with the place past it, or 18 or 19.
+// Reads the number that stands at a place: with the place past it, or 18 or 19. Always in its caller's place in the program: a call, and an answer that is put
+// into memory and taken out again, cost more than a short number does.
+#[inline(always)]
 pub fn read_number(bytes: &[u8], from: usize) -> Result<(u64, usize), Refusal>
     ensures { answer_of result ≡ number_read bytes.now (number (drop from bytes.now)) }
 {
