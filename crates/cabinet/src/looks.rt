@@ -41,13 +41,20 @@ impl State for Node {
     }
 }
 
-// The table first, then the state under it. A call of its own also in the program, so that what it needs of the stack is given back before a step begins: no call
-// may need 32 KiB.
-#[inline(never)]
+// The table first, then the state under it.
 pub(crate) fn look_at<S: State>(table: &[u64], state: &[u64]) -> Result<(Table, S), Refusal>
     ensures { answer_of result ≡ looked (looked_at S.state_at table.now state.now) }
 {
     let table = table_in(table)?;
     let state = S::read(table, state)?;
     Ok((table, state))
+}
+
+// The same look for a call that then makes a step: apart in the program too, so that what the look needs of the stack is given back before the step begins. No
+// call may need 32 KiB. A call that only asks has the look in its own place, which copies less.
+#[inline(never)]
+pub(crate) fn look_apart<S: State>(table: &[u64], state: &[u64]) -> Result<(Table, S), Refusal>
+    ensures { answer_of result ≡ looked (looked_at S.state_at table.now state.now) }
+{
+    look_at(table, state)
 }

@@ -9,7 +9,7 @@ ghost use Rattle.node.specs.Refusals.{start_answer};
 ghost use Rattle.cabinet.specs.Replies.{replied, left, reported, closing, named};
 ghost use Rattle.cabinet.specs.Nodes.{start_door, finish_door, report_door, close_door, words_of};
 
-use crate::looks::look_at;
+use crate::looks::look_apart;
 use crate::reply::{CloseReply, Reply, ReportReply};
 use lists::round_in;
 use node::{Node, NodeClosing, StartRefusal, close_node, finish_node, report_node, start_node};
@@ -21,7 +21,7 @@ fn start(table: &[u64], node: &mut [u64], time: u64) -> Result<u64, StartRefusal
     ensures answer { start_answer result ≡ named (λ s. s.named) (start_door table.now node.old time) }
     ensures node_after { node.new ≡ left (λ s. words_of s.node) node.old (start_door table.now node.old time) }
 {
-    let (table, held) = look_at::<Node>(table, node)?;
+    let (table, held) = look_apart::<Node>(table, node)?;
     let started = start_node(table, held, time)?;
     put_node(node, started.node);
     Ok(started.task)
@@ -39,7 +39,7 @@ fn finish(table: &[u64], node: &mut [u64], time: u64) -> Result<u64, Refusal>
     ensures answer { answer_of result ≡ named (λ _. 0) (finish_door table.now node.old time) }
     ensures node_after { node.new ≡ left words_of node.old (finish_door table.now node.old time) }
 {
-    let (_, held) = look_at::<Node>(table, node)?;
+    let (_, held) = look_apart::<Node>(table, node)?;
     let finished = finish_node(held, time)?;
     put_node(node, finished);
     Ok(0)
@@ -57,7 +57,7 @@ fn report(table: &[u64], node: &mut [u64], r: u64) -> Result<Report, Refusal>
     ensures answer { answer_of result ≡ told_as (λ a. report_as a.sent) (report_door table.now node.old r) }
     ensures node_after { node.new ≡ left (λ a. words_of a.node) node.old (report_door table.now node.old r) }
 {
-    let (table, held) = look_at::<Node>(table, node)?;
+    let (table, held) = look_apart::<Node>(table, node)?;
     let reported = report_node(table, held, r)?;
     put_node(node, reported.node);
     Ok(reported.report)
@@ -94,7 +94,7 @@ fn close(
     ensures answer { answer_of result ≡ told_as nodes.closed_as (close_door table.now node.old r releases.now entries.now) }
     ensures node_after { node.new ≡ left (λ k. words_of k.node) node.old (close_door table.now node.old r releases.now entries.now) }
 {
-    let (table, held) = look_at::<Node>(table, node)?;
+    let (table, held) = look_apart::<Node>(table, node)?;
     let record = round_in(r, releases, entries)?;
     let closed = close_node(table, held, record)?;
     put_node(node, closed.node);

@@ -8,7 +8,7 @@ ghost use Rattle.node.specs.Refusals.{start_answer};
 ghost use Rattle.cabinet.specs.Replies.{replied, left, closing, named};
 ghost use Rattle.cabinet.specs.Stations.{close_station_door, projection_door, bound_door, order_door, order_over, words_of};
 
-use crate::looks::look_at;
+use crate::looks::{look_apart, look_at};
 use crate::reply::{CloseReply, Reply};
 use close::{Closing, close_round};
 use common::{Common, bound_of, projection_of};
@@ -28,7 +28,7 @@ fn close_station(
     ensures answer { answer_of result ≡ told_as closed_as (close_station_door table.now common.old r releases.now entries.now) }
     ensures common_after { common.new ≡ left (λ k. words_of k.common) common.old (close_station_door table.now common.old r releases.now entries.now) }
 {
-    let (table, kept) = look_at::<Common>(table, common)?;
+    let (table, kept) = look_apart::<Common>(table, common)?;
     let record = round_in(r, releases, entries)?;
     let closed = close_round(table, kept, record)?;
     put_common(common, 0, closed.common);
